@@ -1,0 +1,3 @@
+-- Lists, with tests that compute.
+pub mod Lists
+pub mod Sorts

@@ -1,0 +1,5 @@
+-- What the definitions compute: the sequence of the tests, and two tables of cases.
+pub mod Sequences
+pub mod Calls
+pub mod Cases
+pub mod Further

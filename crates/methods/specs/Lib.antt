@@ -1,0 +1,8 @@
+-- The methods, in the sequence of document 01: the prepared history, what a method places, zones, LBT, FZF, the marking call.
+pub mod Extremes
+pub mod Prepared
+pub mod Place
+pub mod Zones
+pub mod Lbt
+pub mod Fzf
+pub mod Mark

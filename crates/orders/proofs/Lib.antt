@@ -1,0 +1,7 @@
+-- The order check accepts the valid k-atomic total orders of a screened register and no other list; only the register's rows count.
+pub mod Positions
+pub mod Exact
+pub mod Same
+pub mod Between
+pub mod NoRow
+pub mod Chain

@@ -1,0 +1,2 @@
+-- What the code's chain of tests computes.
+pub mod Chain
