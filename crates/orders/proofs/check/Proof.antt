@@ -1,3 +1,4 @@
+-- The answer is the defined one, by the chain of tests; the other two clauses follow from that (`promises`).
 use mathlib.Core.Path.{_≡_, sym, ap, _∙_}
 use borrow.Author.Needs.{needs}
 use Rattle.orders.specs.Check.{check}

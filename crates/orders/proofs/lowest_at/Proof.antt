@@ -1,3 +1,4 @@
+-- The loop looks at the positions in sequence: the lowest of the whole is the lowest from here on (`Scan`).
 use Prim.Native.Nat.{_-_}
 use mathlib.Core.Path.{refl, sym, _∙_}
 use native.Mathlib.Omega.{arith}

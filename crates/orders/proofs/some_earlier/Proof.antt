@@ -1,3 +1,4 @@
+-- The loop looks at the earlier positions in sequence: whether some is related is what those from here on say (`Scan`).
 use Prim.Native.Nat.{_-_}
 use mathlib.Core.Path.{refl, sym, _∙_}
 use native.Mathlib.Omega.{arith}

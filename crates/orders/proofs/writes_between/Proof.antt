@@ -1,3 +1,4 @@
+-- The loop counts the writes from behind q on: what is counted and what is to come make the whole (`Counted`).
 use Prim.Native.Nat.{_-_}
 use native.Mathlib.Omega.{arith}
 use lib.ListN.{getD}

@@ -1,3 +1,4 @@
+-- The loop counts the rows in sequence: what is counted and what is to come make the whole (`Scan`), and the count fits, being at most the row.
 use Prim.Native.Nat.{_+_, _-_, _≤_}
 use mathlib.Core.Path.{sym, ap, _∙_}
 use native.Mathlib.Nat.{zero-add, add-zero}

@@ -1,3 +1,4 @@
+-- The first three tests return at once; the six that look at each row are the chain of `examined-chained`.
 use Prim.Native.Nat.{_/_, _%_}
 use borrow.Author.Tests.{eq-eqb, ne-eqb, lt-ltb, le-ltb}
 use borrow.Author.Needs.{needs}

@@ -1,14 +1,10 @@
 use Rattle.lists.proofs.Decide.{decide}
 use Rattle.screening.proofs.has_stamp.Statement.{statement}
 use Rattle.screening.proofs.has_stamp.Tie as tie
-use Rattle.screening.proofs.has_stamp.Reads as reads
-use Rattle.screening.proofs.has_stamp.Lts as lts
 
--- src/lib.rt:67:9
 returns : tie.Need-returns
 returns c = search decide
 
--- src/lib.rt:63:1
 returns-2 : tie.Need-returns-2
 returns-2 c = search decide
 

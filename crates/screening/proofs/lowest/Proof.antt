@@ -1,3 +1,4 @@
+-- The loop looks at the rows in sequence: the lowest row of the whole is the lowest from here on (`Scan`).
 use Prim.Native.Nat.{_-_}
 use mathlib.Core.Path.{sym, ap, _∙_}
 use native.Mathlib.Omega.{arith}

@@ -1,3 +1,4 @@
+-- The answer is the defined one; the other two clauses are the theorems about it.
 use mathlib.Core.Path.{ap, sym, _∙_}
 use borrow.Author.Needs.{needs}
 use Rattle.history.specs.Screen.{screening}

@@ -1,40 +1,30 @@
 use borrow.Author.Tests.{not-true, not-false}
-use Rattle.history.specs.Screen.{shares}
 use borrow.Author.Needs.{needs}
+use Rattle.history.specs.Screen.{shares}
 use Rattle.screening.proofs.shares.Statement.{statement}
 use Rattle.screening.proofs.shares.Tie as tie
-use Rattle.screening.proofs.shares.Reads as reads
-use Rattle.screening.proofs.shares.Lts as lts
-use Rattle.screening.proofs.earlier.Reads as earlier-reads
-use Rattle.screening.proofs.has_stamp.Reads as has-stamp-reads
 
--- src/lib.rt:76:9
 earlier-requires : tie.Need-earlier-requires
 earlier-requires c κs = search needs
 
--- src/lib.rt:77:9
 returns : tie.Need-returns
 unfolding shares
 returns c =
     let first = c .before .earlier in
     rw (← first .ensures, not-true (first .result) (c .if1 .taken))
 
--- src/lib.rt:79:8
 has-stamp-requires : tie.Need-has-stamp-requires
 has-stamp-requires c κs = search needs
 
--- src/lib.rt:80:9
 returns-2 : tie.Need-returns-2
 unfolding shares
 returns-2 c =
     let first = c .before .before .before .earlier in
     rw (← first .ensures, not-false (first .result) (c .before .before .if1 .left), ← c .before .has-stamp .ensures, c .if2 .taken)
 
--- src/lib.rt:82:5
 has-stamp-requires-2 : tie.Need-has-stamp-requires-2
 has-stamp-requires-2 c κs = search needs
 
--- src/lib.rt:73:1
 returns-3 : tie.Need-returns-3
 unfolding shares
 returns-3 c =

@@ -1,4 +1,5 @@
-use Prim.Native.Nat.{_-_, _/_}
+-- The loop looks at the rows in sequence: whether some operation of the register is related is what the rows from here on say (`Scan`).
+use Prim.Native.Nat.{_-_}
 use mathlib.Core.Path.{ap, sym, _∙_}
 use native.Mathlib.Omega.{arith}
 use Rattle.lists.specs.Lists.{keep, any}

@@ -1,3 +1,4 @@
+-- The loop fills a row a turn: the stamp is twice the row, and the table keeps its length.
 use Prim.Native.Nat.{_*_, _-_, _≤_}
 use mathlib.Core.Path.{_≡_}
 use native.Mathlib.Omega.{arith}
@@ -5,8 +6,6 @@ use borrow.Author.Needs.{needs}
 use lib.ListN.{length, length-set}
 use Rattle.vectors.proofs.fill.Statement.{statement}
 use Rattle.vectors.proofs.fill.Tie as tie
-use Rattle.vectors.proofs.fill.Reads as reads
-use Rattle.vectors.proofs.fill.Lts as lts
 
 abbrev Inv-loop : tie.InvT-loop
 Inv-loop table₀ n i₀ stamp₀ table i stamp = (i ≤ n) × (stamp ≡ 2 * i) × (length table ≡ length table₀)
@@ -14,103 +13,78 @@ Inv-loop table₀ n i₀ stamp₀ table i stamp = (i ≤ n) × (stamp ≡ 2 * i)
 abbrev μ-loop : tie.MeasureT-loop
 μ-loop table₀ n i₀ stamp₀ table i stamp = n - i
 
--- src/main.rt:39:5
 loop-holds : tie.Need-loop-holds Inv-loop μ-loop
 loop-holds c = omega arith
 
--- src/main.rt:40:20
 mul-base : tie.Need-mul-base Inv-loop μ-loop
 mul-base c = omega arith
 
--- src/main.rt:41:15
 add-table : tie.Need-add-table Inv-loop μ-loop
 add-table c = omega arith
 
--- src/main.rt:41:9
 mul-table : tie.Need-mul-table Inv-loop μ-loop
 mul-table c = omega arith
 
--- src/main.rt:41:9
 slice-write-table : tie.Need-slice-write-table Inv-loop μ-loop
 slice-write-table c = omega arith
 
--- src/main.rt:42:15
 add-table-2 : tie.Need-add-table-2 Inv-loop μ-loop
 add-table-2 c = omega arith
 
--- src/main.rt:42:9
 mul-table-2 : tie.Need-mul-table-2 Inv-loop μ-loop
 mul-table-2 c = omega arith
 
--- src/main.rt:42:9
 slice-write-table-2 : tie.Need-slice-write-table-2 Inv-loop μ-loop
 slice-write-table-2 c = simp length-set (omega arith)
 
--- src/main.rt:43:15
 add-table-3 : tie.Need-add-table-3 Inv-loop μ-loop
 add-table-3 c = omega arith
 
--- src/main.rt:43:9
 mul-table-3 : tie.Need-mul-table-3 Inv-loop μ-loop
 mul-table-3 c = omega arith
 
--- src/main.rt:43:9
 slice-write-table-3 : tie.Need-slice-write-table-3 Inv-loop μ-loop
 slice-write-table-3 c = simp length-set (omega arith)
 
--- src/main.rt:44:36
 add-table-4 : tie.Need-add-table-4 Inv-loop μ-loop
 add-table-4 c = omega arith
 
--- src/main.rt:44:15
 add-table-5 : tie.Need-add-table-5 Inv-loop μ-loop
 add-table-5 c = omega arith
 
--- src/main.rt:44:9
 mul-table-4 : tie.Need-mul-table-4 Inv-loop μ-loop
 mul-table-4 c = omega arith
 
--- src/main.rt:44:9
 slice-write-table-4 : tie.Need-slice-write-table-4 Inv-loop μ-loop
 slice-write-table-4 c = simp length-set (omega arith)
 
--- src/main.rt:45:37
 add-table-6 : tie.Need-add-table-6 Inv-loop μ-loop
 add-table-6 c = omega arith
 
--- src/main.rt:45:15
 add-table-7 : tie.Need-add-table-7 Inv-loop μ-loop
 add-table-7 c = omega arith
 
--- src/main.rt:45:9
 mul-table-5 : tie.Need-mul-table-5 Inv-loop μ-loop
 mul-table-5 c = omega arith
 
--- src/main.rt:45:9
 slice-write-table-5 : tie.Need-slice-write-table-5 Inv-loop μ-loop
 slice-write-table-5 c = simp length-set (omega arith)
 
--- src/main.rt:46:9
 add-stamp : tie.Need-add-stamp Inv-loop μ-loop
 add-stamp c = omega arith
 
--- src/main.rt:47:9
 add-i : tie.Need-add-i Inv-loop μ-loop
 add-i c = omega arith
 
--- src/main.rt:39:5
 loop-less : tie.Need-loop-less Inv-loop μ-loop
 loop-less c = omega arith
 
--- src/main.rt:39:5
 loop-again : tie.Need-loop-again Inv-loop μ-loop
 loop-again c = simp length-set (omega arith)
 
--- src/main.rt:35:1
 same-length : tie.Need-same-length Inv-loop μ-loop
 same-length c = search needs
 
--- src/main.rt:35:1
 returns : tie.Need-returns Inv-loop μ-loop
 returns c = search needs
 
