@@ -41,7 +41,7 @@ impl Row {
     pub const FINISH: usize = 4;
 
     // The row of a table, which the caller keeps within it.
-    pub fn at(table: &[u64], row: usize) -> Row
+    fn at(table: &[u64], row: usize) -> Row
         requires { ⌜ row * 5 + 5 ≤ length (now table) ⌝ }
         ensures { λ r. ⌜ r ≡ rowAt (now (table .entry)) row ⌝ }
     {
@@ -55,13 +55,13 @@ impl Row {
         }
     }
 
-    pub fn bears(self, register: u64) -> bool
+    fn bears(self, register: u64) -> bool
         ensures { λ r. ⌜ r ≡ eqb (self .register) register ⌝ }
     {
         self.register == register
     }
 
-    pub fn operation(self, row: usize) -> Op
+    fn operation(self, row: usize) -> Op
         ensures { λ r. ⌜ r ≡ operation self row ⌝ }
     {
         Op {

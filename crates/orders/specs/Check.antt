@@ -15,7 +15,8 @@ use Rattle.history.specs.Answer.{misfit-list, out-of-time, too-far-behind, Test
 use Rattle.history.specs.Screen.{tests, Screened}
 use Rattle.orders.specs.Order.{placed, writesBetween, Atomic}
 
--- Position p against a position q before it: the same row; a row that p's precedes; p's dictating write with fewer than k writes between.
+-- Position p against a position q before it (01's table, 13 to 15): the same row; a row that p's precedes; p's dictating write with fewer than
+-- k writes between.
 unfoldable pub sameRow : List ℕ → ℕ → ℕ → Bool
 sameRow order p q = eqb (getD order q 0) (getD order p 0)
 
@@ -25,7 +26,7 @@ precedesAt t order p q = precedes (placed t order p) (placed t order q)
 unfoldable pub nearAt : ℕ → List ℕ → List ℕ → ℕ → ℕ → Bool
 nearAt k t order p q = dictates (placed t order q) (placed t order p) && ltb (writesBetween t order q p) k
 
--- row i exists and bears the register
+-- row i exists and bears the register (01, "The row"), as a test
 unfoldable pub isRow : List ℕ → ℕ → ℕ → Bool
 isRow t register i = ltb i (rowCount t) && bears t register i
 
@@ -41,7 +42,7 @@ late t order p = any (precedesAt t order p) (upTo p)
 unfoldable pub tooFar : ℕ → List ℕ → List ℕ → ℕ → Bool
 tooFar k t order p = isRead (placed t order p) && not (any (nearAt k t order p) (upTo p))
 
--- the lowest position that meets the condition
+-- the lowest position that meets the condition (01's table, the row field of 13 to 15)
 abbrev pub lowestAt : (ℕ → Bool) → List ℕ → Found
 lowestAt f order = first (λ p. p) f (upTo (length order))
 
@@ -49,7 +50,7 @@ lowestAt f order = first (λ p. p) f (upTo (length order))
 unfoldable pub missing : List ℕ → ℕ → List ℕ → Found
 missing t register order = cond (ltb (length order) (length (rowsOf t register))) (At (length order)) Nothing
 
--- Tests 13, 14 and 15, in their sequence.
+-- Tests 13, 14 and 15, a line each, in their sequence (01, "The answer and its numbers").
 unfoldable pub orderTests : List ℕ → ℕ → ℕ → List ℕ → List Test
 orderTests t register k order =
     test misfit-list (lowestAt (misfits t register order) order)
@@ -62,10 +63,11 @@ orderTests t register k order =
 abbrev pub checkTests : List ℕ → ℕ → ℕ → List ℕ → List Test
 checkTests t register k order = tests (length t) (history t register) (eqb k 0) ++ orderTests t register k order
 
+-- The order check: its first condition met, or code 0 with the count of the register's rows (01, "What is built").
 unfoldable pub check : List ℕ → ℕ → ℕ → List ℕ → Answer
 check t register k order = firstMet (checkTests t register k order) (passed (length (history t register)))
 
--- What code 0 says, no more and no less.
+-- What code 0 of the order check says, no more and no less (01, "The row": a valid k-atomic order, for k of at least 1).
 pub record Accepted (k : ℕ) (t : List ℕ) (register : ℕ) (order : List ℕ) : Type 0 where
   pub screened : Screened (length t) (history t register)
   pub asked : k ≢ 0

@@ -19,14 +19,14 @@ ghost use Rattle.orders.specs.Check.{sameRow, precedesAt, nearAt, isRow,
 ghost use Rattle.orders.specs.Faults.{related, condition, codeOf, positionTest, missingTest};
 
 // How a position may stand to an earlier one.
-pub enum Earlier {
+enum Earlier {
     Same,
     Preceded,
     Near,
 }
 
 // What may be wrong with a position.
-pub enum Fault {
+enum Fault {
     Misfit,
     Late,
     TooFar,

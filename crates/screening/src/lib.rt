@@ -19,7 +19,7 @@ ghost use Rattle.history.specs.Table.{bears};
 ghost use Rattle.screening.specs.Tests.{related, codeOf, condition, rowTest};
 
 // How an operation may stand to another of its register.
-pub enum Pair {
+enum Pair {
     Shares,
     Repeats,
     Dictated,
@@ -27,7 +27,7 @@ pub enum Pair {
 }
 
 // The tests that look at each row of the register, in their sequence.
-pub enum RowTest {
+enum RowTest {
     Kind,
     Span,
     Shared,
