@@ -8,7 +8,9 @@ use native.Mathlib.Omega.{arith}
 use lib.ListN.{length, length-map}
 use Rattle.lists.specs.Lists.{keep, upTo}
 use Rattle.lists.proofs.Tests.{Told, holds, fails, told-true, true-told, told-eqb}
-use Rattle.lists.proofs.Members.{in-keep, keep-in, keep-ext, map-ext, Pairs, pairs-keep}
+use Rattle.lists.proofs.Members.{in-keep, keep-in, keep-ext, map-ext}
+use Rattle.lists.specs.Pairs.{Pairs}
+use Rattle.lists.proofs.Pairs.{pairs-keep}
 use Rattle.lists.proofs.Ranges.{below-in, in-below, from-rises}
 use Rattle.history.specs.Table.{cell, rowCount, operation, opAt, RowOf, bears, rowsOf, history, Alike}
 

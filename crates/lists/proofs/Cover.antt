@@ -1,16 +1,18 @@
--- Counting: a list without repetition among rs that is no shorter has each of rs; a rising list whose elements are all in l is no longer.
+-- Counting: a list without repetition among rs that is no shorter has each of rs; a list without repetition whose elements are all in l is no longer.
 -- Assumes nothing.
 use Prim.Native.Nat.{ℕ, zero, suc, _≤_, _<_}
 use mathlib.Core.Path.{_≡_, refl, sym, ap, _∙_}
 use mathlib.Core.Logic.{_≢_}
 use mathlib.Core.Bool.{Bool, true, false, cond}
-use mathlib.Core.List.{List, [], _∷_, List·Memᴰ as In, List·Memᴰ·head as here, List·Memᴰ·tail as there}
+use mathlib.Core.List.{List, [], _∷_, map, List·Memᴰ as In, List·Memᴰ·head as here, List·Memᴰ·tail as there}
 use native.Mathlib.Omega.{arith}
 use native.Mathlib.Decide.{ℕ-discrete}
 use borrow.Author.Tests.{eqb-true, eqb-false}
 use lib.Dec.{eqb}
-use lib.ListN.{length, getD, take, drop}
-use Rattle.lists.proofs.Members.{Pairs, nil, cons}
+use lib.ListN.{length, length-map, getD, take, drop}
+use Rattle.lists.specs.Pairs.{Pairs, nil, cons}
+use Rattle.lists.proofs.Maps.{in-map, map-in}
+use Rattle.lists.proofs.Pairs.{pairs-image}
 
 -- where an element stands, and what stands at a place
 pub in-at : {x : ℕ} {l : List ℕ} → In x l → (p : ℕ) × (p < length l) × (getD l p 0 ≡ x)
@@ -71,7 +73,13 @@ cover (x ∷ l) rs among once short {r} m = go (ℕ-discrete r x) (λ n. cover l
     go (yes e) f = here e
     go (no n) f = there (f n)
 
-pub no-longer : {rs : List ℕ} → Pairs (λ x y. x < y) rs → (l : List ℕ) → ((r : ℕ) → In r rs → In r l) → length rs ≤ length l
+pub no-longer : {rs : List ℕ} → Pairs _≢_ rs → (l : List ℕ) → ((r : ℕ) → In r rs → In r l) → length rs ≤ length l
 no-longer nil l h = omega arith
 no-longer (cons {x = x} {l = rs} u t) l h =
-    omega (arith, remove-length x l (h x (here refl)), no-longer t (remove x l) (λ r m. remove-in x l (h r (there m)) (λ e. omega (arith, u r m))))
+    omega (arith, remove-length x l (h x (here refl)), no-longer t (remove x l) (λ r m. remove-in x l (h r (there m)) (λ e. u r m (sym e))))
+
+-- the same of elements of any type that a key tells apart
+pub no-longer-by : {A : Type 0} (key : A → ℕ) {zs : List A} → Pairs (λ x y. key x ≢ key y) zs → (l : List A) → ((z : A) → In z zs → In z l) →
+    length zs ≤ length l
+no-longer-by key {zs} p l h =
+    omega (arith, length-map zs key, length-map l key, no-longer (pairs-image key p) (map key l) (λ r m. let k = in-map key zs m in rw (k .2) (map-in key (h (k .0) (k .1)))))

@@ -1,6 +1,11 @@
 -- The laws of the definitions in specs/, and of the loops that compute them.
 pub mod Tests
 pub mod Members
+pub mod Every
+pub mod Counts
+pub mod Maps
+pub mod Pairs
+pub mod Sorts
 pub mod Ranges
 pub mod Cover
 pub mod Scans

@@ -101,20 +101,6 @@ module _ {A : Type 0} where
     none-nothing [] h = refl
     none-nothing (y ∷ l) h = rw (h y (here refl)) (none-nothing l (λ x m. h x (there m)))
 
-  -- each element stands in R to every later one
-  pub data Pairs (R : A → A → Type 0) : List A → Type 0 where
-    nil : Pairs R []
-    cons : {x : A} {l : List A} → ((y : A) → In y l → R x y) → Pairs R l → Pairs R (x ∷ l)
-
-  pub pairs-keep : {R : A → A → Type 0} (p : A → Bool) {l : List A} → Pairs R l → Pairs R (keep p l)
-  unfolding keep put
-  pairs-keep p nil = nil
-  pairs-keep {R} p (cons {x = x} {l = l} h t) = go (p x) (pairs-keep p t)
-    where
-      go : (b : Bool) → Pairs R (keep p l) → Pairs R (put b x (keep p l))
-      go true k = cons (λ y m. h y (in-keep p l m .0)) k
-      go false k = k
-
   pub map-ext : {B : Type 0} (f g : A → B) (l : List A) → ((x : A) → In x l → f x ≡ g x) → map f l ≡ map g l
   map-ext f g [] h = refl
   map-ext f g (x ∷ l) h = ap₂ (λ y r. y ∷ r) (h x (here refl)) (map-ext f g l (λ y m. h y (there m)))

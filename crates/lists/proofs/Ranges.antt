@@ -7,7 +7,7 @@ use mathlib.Core.List.{_∷_, List·Memᴰ as In, List·Memᴰ·head as here, Li
 use native.Mathlib.Nat.{eq-or-lt-of-le}
 use native.Mathlib.Omega.{arith}
 use Rattle.lists.specs.Lists.{from, upTo}
-use Rattle.lists.proofs.Members.{Pairs, nil, cons}
+use Rattle.lists.specs.Pairs.{Pairs, nil, cons}
 
 from-in : (i n q : ℕ) → i ≤ q → q < i + n → In q (from i n)
 unfolding from

@@ -1,7 +1,7 @@
 -- What a test tells of the statement that it tests: that it holds, or that it does not. One law a connective; both directions follow.
 -- Assumes nothing.
 use Prim.Native.Nat.{ℕ, _<_}
-use mathlib.Core.Path.{_≡_, refl, sym, _∙_}
+use mathlib.Core.Path.{_≡_, refl, sym, ap, _∙_}
 use mathlib.Core.Bool.{Bool, true, false, not, _&&_, _||_, true≢false}
 use mathlib.Core.Logic.{_⊎_, inl, inr}
 use lib.Dec.{ltb, eqb}
@@ -14,6 +14,30 @@ pub data Told (P : Type 0) : Bool → Type 0 where
 
 pub both : {b : Bool} → b ≡ true → b ≡ false → ⊥
 both p q = true≢false (sym p ∙ q)
+
+-- either value of a test, with the equation
+pub test : (b : Bool) → (b ≡ true) ⊎ (b ≡ false)
+test true = inl refl
+test false = inr refl
+
+pub true-not : {b : Bool} → b ≡ false → not b ≡ true
+true-not e = ap not e
+
+pub and-true : (a b : Bool) → (a && b) ≡ true → (a ≡ true) × (b ≡ true)
+and-true true b e = (refl, e)
+and-true false b e = absurd (both e refl)
+
+pub true-and : {a b : Bool} → a ≡ true → b ≡ true → (a && b) ≡ true
+true-and p q = rw (p, q)
+
+pub or-true : (a b : Bool) → (a || b) ≡ true → (a ≡ true) ⊎ (b ≡ true)
+or-true true b e = inl refl
+or-true false b e = inr e
+
+pub true-or : (a b : Bool) → (a ≡ true) ⊎ (b ≡ true) → (a || b) ≡ true
+true-or a b (inl p) = rw p
+true-or true b (inr q) = refl
+true-or false b (inr q) = q
 
 pub or-false : (a b : Bool) → (a || b) ≡ false → (a ≡ false) × (b ≡ false)
 or-false true b e = absurd (both refl e)

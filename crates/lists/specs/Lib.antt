@@ -1,3 +1,4 @@
 -- Lists, with tests that compute.
 pub mod Lists
 pub mod Sorts
+pub mod Pairs

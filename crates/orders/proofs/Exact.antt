@@ -13,6 +13,7 @@ use Rattle.lists.specs.declared.Found.the-variants.{At, Nothing}
 use Rattle.lists.specs.Lists.{upTo, any}
 use Rattle.lists.proofs.Tests.{or-false, told-true, true-told, told-false, false-told}
 use Rattle.lists.proofs.Ranges.{below-in, in-below}
+use Rattle.lists.proofs.Pairs.{pairs-map}
 use Rattle.lists.proofs.Cover.{in-at, at-in, cover, no-longer}
 use Rattle.history.specs.Table.{RowOf, rowsOf, history}
 use Rattle.history.specs.Answer.{Test, passed}
@@ -72,7 +73,7 @@ module _ (t : List ℕ) (register : ℕ) (order : List ℕ) where
       go p h (inr (q, m, e)) = o .once q p (in-below p m) h e
 
   total-whole : TotalOrder t register order → missing t register order ≡ Nothing
-  total-whole o = none-missing (no-longer (rows-rise t register) order listed)
+  total-whole o = none-missing (no-longer (pairs-map (rows-rise t register) (λ x y m n h e. omega arith)) order listed)
     where
       listed : (i : ℕ) → In i (rowsOf t register) → In i order
       listed i m = let w = o .whole i (in-rows t register m) in Memᴰ·cast (sym (w .2)) (at-in order (w .0) (w .1))

@@ -1,0 +1,3 @@
+-- Clusters and their zones, and the zone method.
+pub mod Clusters
+pub mod One

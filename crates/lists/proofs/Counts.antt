@@ -1,0 +1,57 @@
+-- How many elements pass a test.
+-- Assumes nothing.
+use Prim.Native.Nat.{suc, _≤_, _<_}
+use mathlib.Core.Path.{_≡_, ap}
+use mathlib.Core.Bool.{Bool, true, false}
+use mathlib.Core.List.{List, [], _∷_, List·Memᴰ as In, List·Memᴰ·head as here, List·Memᴰ·tail as there}
+use native.Mathlib.Omega.{arith}
+use lib.ListN.{length}
+use Rattle.lists.specs.Lists.{put, keep}
+
+module _ {A : Type 0} where
+  put-mono : (c : Bool) (x : A) (a b : List A) → length a ≤ length b → length (put c x a) ≤ length (put c x b)
+  unfolding put
+  put-mono true x a b h = omega arith
+  put-mono false x a b h = h
+
+  put-mono-lt : (c : Bool) (x : A) (a b : List A) → length a < length b → length (put c x a) < length (put c x b)
+  unfolding put
+  put-mono-lt true x a b h = omega arith
+  put-mono-lt false x a b h = h
+
+  put-more : (c : Bool) (x : A) (a : List A) → length a ≤ length (put c x a)
+  unfolding put
+  put-more true x a = omega arith
+  put-more false x a = omega arith
+
+  pub keep-length : (p : A → Bool) (l : List A) → length (keep p l) ≤ length l
+  unfolding keep put
+  keep-length p [] = omega arith
+  keep-length p (x ∷ l) = go (p x) (keep-length p l)
+    where
+      go : (b : Bool) → length (keep p l) ≤ length l → length (put b x (keep p l)) ≤ suc (length l)
+      go true h = omega arith
+      go false h = omega arith
+
+  pub some-length : {y : A} {l : List A} → In y l → 0 < length l
+  some-length (here e) = omega arith
+  some-length (there m) = omega arith
+
+  -- a list that is kept in part has no more elements that pass a second test q, and fewer when one such is dropped
+  pub keep-le : (q p : A → Bool) (l : List A) → length (keep q (keep p l)) ≤ length (keep q l)
+  unfolding keep put
+  keep-le q p [] = omega arith
+  keep-le q p (x ∷ l) = go (p x) (keep-le q p l)
+    where
+      go : (b : Bool) → length (keep q (keep p l)) ≤ length (keep q l) → length (keep q (put b x (keep p l))) ≤ length (put (q x) x (keep q l))
+      go true h = put-mono (q x) x _ _ h
+      go false h = omega (arith, put-more (q x) x (keep q l))
+
+  pub keep-lt : (q p : A → Bool) (l : List A) {y : A} → In y l → q y ≡ true → p y ≡ false → length (keep q (keep p l)) < length (keep q l)
+  unfolding keep put
+  keep-lt q p (x ∷ l) (here e) hq hp = rw (← ap p e, ← ap q e, hq, hp) (omega (arith, keep-le q p l))
+  keep-lt q p (x ∷ l) (there k) hq hp = go (p x) (keep-lt q p l k hq hp)
+    where
+      go : (b : Bool) → length (keep q (keep p l)) < length (keep q l) → length (keep q (put b x (keep p l))) < length (put (q x) x (keep q l))
+      go true h = put-mono-lt (q x) x _ _ h
+      go false h = omega (arith, put-more (q x) x (keep q l))

@@ -1,0 +1,1 @@
+-- No definitions of its own: the prepared history is defined in the crate of the methods.

@@ -1,0 +1,1 @@
+// Pure mathematics: no code. The theorems stand in proofs/.

@@ -1,0 +1,1 @@
+-- No definitions of its own: the methods are defined in the crate of the methods.

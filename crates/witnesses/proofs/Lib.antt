@@ -1,0 +1,7 @@
+-- The theorems about orders of operations.
+pub mod Runs
+pub mod Places
+pub mod Parts
+pub mod Positions
+pub mod Steps
+pub mod Join
