@@ -1,21 +1,19 @@
 -- The clusters of a prepared history: their smallest finish and largest start, the history of some clusters alone, and the order of one.
 -- Assumes nothing.
-use Prim.Native.Nat.{ℕ, suc, max, _≤_, _<_}
+use Prim.Native.Nat.{ℕ, suc, _≤_, _<_}
 use mathlib.Core.Path.{_≡_, refl, sym, ap, _∙_}
 use mathlib.Core.Logic.{_⊎_, inl, inr, _≢_}
 use mathlib.Core.Bool.{true, false}
 use mathlib.Core.List.{List, [], _∷_, List·Memᴰ as In, List·Memᴰ·head as here, List·Memᴰ·tail as there, Memᴰ·cast, List·Memᴰ·eq-of-singleton as alone}
 use native.Mathlib.Omega.{arith}
-use native.Mathlib.Decide.{decLe, decLt}
-use borrow.Author.Tests.{eq-eqb, eqb-true, not-true}
-use Rattle.lists.specs.Lists.{keep}
+use native.Mathlib.Decide.{decLt}
 use Rattle.lists.specs.Pairs.{Pairs, cons}
-use Rattle.lists.proofs.Tests.{Told, told-true, true-told, told-eqb, test, both, true-not}
+use Rattle.lists.proofs.Tests.{Told, told-true, true-told, told-eqb, test, both}
 use Rattle.lists.proofs.Members.{in-keep, keep-in, told-any}
-use Rattle.lists.proofs.Pairs.{pairs-keep, pairs-map, pairs-both}
+use Rattle.lists.proofs.Pairs.{pairs-keep, pairs-map}
 use Rattle.history.specs.declared.Op.{Op}
 use Rattle.history.specs.Table.{isWrite}
-use Rattle.methods.specs.Extremes.{least, greatest}
+use Rattle.methods.specs.Extremes.{greatest}
 use Rattle.methods.specs.Prepared.{noWrite, sameValue, readsOf}
 use Rattle.methods.specs.Place.{writes}
 use Rattle.methods.specs.Zones.{cluster, firstFinish, lastStart}
@@ -24,7 +22,8 @@ use Rattle.witnesses.specs.Histories.{Write, Reads, Prepared}
 use Rattle.witnesses.specs.Orders.{Before, run-write, Orders}
 use Rattle.witnesses.specs.Witness.{Witness}
 use Rattle.witnesses.proofs.Runs.{run-reads}
-use Rattle.witnesses.proofs.Parts.{named, in-writes, Closed, prepared-keep}
+use Rattle.witnesses.proofs.Extremes.{least-first, greatest-first, greatest-in, greatest-is}
+use Rattle.witnesses.proofs.Parts.{in-readsOf, readsOf-in, in-sequence, named, in-writes, Closed, prepared-keep}
 
 -- two clusters
 abbrev pub Differ : Op → Op → Type 0
@@ -32,49 +31,6 @@ Differ v w = v .value ≢ w .value
 
 pub differ-sym : (v w : Op) → Differ v w → Differ w v
 differ-sym v w n e = n (sym e)
-
--- The smallest and the largest key.
-
-module _ (key : Op → ℕ) where
-  least-first : (m : ℕ) (l : List Op) → ((x : Op) → In x l → m ≤ key x) → least key m l ≡ m
-  unfolding least
-  least-first m [] h = refl
-  least-first m (x ∷ l) h = omega (arith, h x (here refl), least-first m l (λ y n. h y (there n)))
-
-  greatest-first : (m : ℕ) (l : List Op) → m ≤ greatest key m l
-  unfolding greatest
-  greatest-first m [] = omega arith
-  greatest-first m (x ∷ l) = omega (arith, greatest-first m l)
-
-  greatest-in : (m : ℕ) (l : List Op) {x : Op} → In x l → key x ≤ greatest key m l
-  unfolding greatest
-  greatest-in m (y ∷ l) (here e) = omega (arith, ap key e)
-  greatest-in m (y ∷ l) (there n) = omega (arith, greatest-in m l n)
-
-  greatest-is : (m : ℕ) (l : List Op) → (greatest key m l ≡ m) ⊎ ((x : Op) × In x l × (greatest key m l ≡ key x))
-  unfolding greatest
-  greatest-is m [] = inl refl
-  greatest-is m (x ∷ l) = go (decLe (greatest key m l) (key x)) (greatest-is m l)
-    where
-      Is : List Op → ℕ → Type 0
-      Is l n = (n ≡ m) ⊎ ((y : Op) × In y l × (n ≡ key y))
-
-      go : Dec (greatest key m l ≤ key x) → Is l (greatest key m l) → Is (x ∷ l) (max (key x) (greatest key m l))
-      go (yes h) i = inr (x, here refl, omega arith)
-      go (no h) (inl e) = inl (omega arith)
-      go (no h) (inr (y, n, e)) = inr (y, there n, omega arith)
-
--- The reads of a write are those that it dictates.
-
-module _ (H : List Op) {w r : Op} where
-  in-readsOf : Write H w → In r (readsOf H w) → Reads H w r
-  in-readsOf k m =
-      let a = in-keep noWrite (keep (sameValue w) H) m in
-      let b = in-keep (sameValue w) H (a .0) in
-      record { by = k; mem = b .0; read = not-true _ (a .1); same = sym (eqb-true _ _ (b .1)) }
-
-  readsOf-in : Reads H w r → In r (readsOf H w)
-  readsOf-in d = keep-in noWrite _ (keep-in (sameValue w) H (d .mem) (eq-eqb _ _ (sym (d .same)))) (true-not (d .read))
 
 -- the largest start is that of an operation of the cluster: the write or a read
 last-is : {H : List Op} {w : Op} → Write H w → (o : Op) × In o H × ((o ≡ w) ⊎ Reads H w o) × (lastStart H w ≡ o .start)
@@ -164,26 +120,17 @@ module _ {H : List Op} (g : Prepared H) where
       record {
         from = from;
         into = into;
-        pairs = cons (λ y m. first y (in-readsOf H kw m)) (pairs-map rising (λ x y m n r. reads x y (in-readsOf H kw n) r));
+        pairs = cons (λ y m. first y (in-readsOf H kw m)) (pairs-keep noWrite (pairs-keep (sameValue w) (in-sequence g)));
         passed = w .value ∷ [];
         runs = run-write (kw .write) (run-reads (readsOf H w) (λ x m. let d = in-readsOf H kw m in (d .read, here (sym (d .same)))));
       }
     where
-      Rises : Op → Op → Type 0
-      Rises x y = (x .row ≢ y .row) × (x .start < y .start)
-
-      rising : Pairs Rises (readsOf H w)
-      rising = pairs-keep noWrite (pairs-keep (sameValue w) (pairs-both (g .proper .rows) (g .rising)))
-
       first : (y : Op) → Reads H w y → Before w y
       first y d =
           record {
             apart = λ e. both (kw .write) (ap isWrite (named (g .proper .rows) w y (kw .mem) (d .mem) e) ∙ d .read);
             valid = omega (arith, g .proper .span w (kw .mem), g .first w y d);
           }
-
-      reads : (x y : Op) → Reads H w y → Rises x y → Before x y
-      reads x y d r = record { apart = r .0; valid = omega (arith, r .1, g .proper .span y (d .mem)) }
 
       from : (x : Op) → In x (cluster H w) → In x (only (w ∷ []) H)
       from x (here e) = only-in (w ∷ []) H (Memᴰ·cast e (kw .mem)) (here refl) (ap (λ o. o .value) e)

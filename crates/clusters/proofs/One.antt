@@ -25,7 +25,7 @@ use Rattle.witnesses.specs.Witness.{Witness}
 use Rattle.witnesses.specs.Decides.{Decides, no-order, an-order}
 use Rattle.witnesses.proofs.Parts.{in-writes, writes-in}
 use Rattle.witnesses.proofs.Positions.{orders-witness}
-use Rattle.witnesses.proofs.Steps.{near-one}
+use Rattle.witnesses.proofs.Near.{near-one}
 use Rattle.witnesses.proofs.Join.{joins}
 use Rattle.clusters.proofs.Clusters.{Differ, differ-sym, in-only, only-in, not-last, home, follows, cluster-orders, writes-apart, before-or-between}
 

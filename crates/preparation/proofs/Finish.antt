@@ -1,48 +1,24 @@
 -- The new finish of an operation (document 01, "Doubled stamps"): the old one doubled, or one below the doubled finish of a read of it. It
 -- is no later than the old one, and below those of all its reads.
 -- Assumes nothing.
-use Prim.Native.Nat.{ℕ, _*_, _-_, _≤_, _<_, min}
-use mathlib.Core.Path.{_≡_, refl, sym, ap, _∙_}
+use Prim.Native.Nat.{ℕ, _*_, _-_, _≤_, _<_}
+use mathlib.Core.Path.{_≡_, refl, ap, _∙_}
 use mathlib.Core.Logic.{_⊎_, inl, inr}
 use mathlib.Core.Bool.{Bool, true, false}
 use mathlib.Core.List.{List, [], _∷_, List·Memᴰ as In, List·Memᴰ·head as here, List·Memᴰ·tail as there}
 use native.Mathlib.Omega.{arith}
-use native.Mathlib.Decide.{decLe, decLt}
-use borrow.Author.Tests.{eq-eqb, eqb-true, lt-ltb, ltb-true, not-true}
-use Rattle.lists.specs.Lists.{keep}
-use Rattle.lists.proofs.Tests.{both, true-not}
+use native.Mathlib.Decide.{decLt}
+use borrow.Author.Tests.{lt-ltb, ltb-true}
+use Rattle.lists.proofs.Tests.{both}
 use Rattle.lists.proofs.Members.{in-keep, keep-in}
 use Rattle.history.specs.declared.Op.{Op}
 use Rattle.history.specs.Table.{isWrite}
 use Rattle.methods.specs.Extremes.{least}
-use Rattle.methods.specs.Prepared.{noWrite, sameValue, readsOf, finishesBelow, cutting, shortened, newFinish}
+use Rattle.methods.specs.Prepared.{readsOf, finishesBelow, cutting, shortened, newFinish}
 use Rattle.witnesses.specs.Histories.{Write, Reads}
+use Rattle.witnesses.proofs.Extremes.{least-begin, least-low, least-is}
+use Rattle.witnesses.proofs.Parts.{in-readsOf, readsOf-in}
 use Rattle.preparation.proofs.Timed.{Timed}
-
--- the least of m and the keys: none of them is below it, and it is one of them
-module _ {A : Type 0} (key : A → ℕ) where
-  least-begin : (m : ℕ) (l : List A) → least key m l ≤ m
-  unfolding least
-  least-begin m [] = omega arith
-  least-begin m (x ∷ l) = omega (arith, least-begin m l)
-
-  least-low : (m : ℕ) (l : List A) {x : A} → In x l → least key m l ≤ key x
-  unfolding least
-  least-low m (y ∷ l) (here e) = omega (arith, ap key e)
-  least-low m (y ∷ l) (there n) = omega (arith, least-low m l n)
-
-  least-is : (m : ℕ) (l : List A) → (least key m l ≡ m) ⊎ ((x : A) × In x l × (least key m l ≡ key x))
-  unfolding least
-  least-is m [] = inl refl
-  least-is m (y ∷ l) = go (decLe (key y) (least key m l)) (least-is m l)
-    where
-      Is : List A → ℕ → Type 0
-      Is l n = (n ≡ m) ⊎ ((x : A) × In x l × (n ≡ key x))
-
-      go : Dec (key y ≤ least key m l) → Is l (least key m l) → Is (y ∷ l) (min (key y) (least key m l))
-      go (yes h) i = inr (y, here refl, omega arith)
-      go (no h) (inl e) = inl (omega arith)
-      go (no h) (inr (x, n, e)) = inr (x, there n, omega arith)
 
 -- the finish that the reads l leave their write w: below each of theirs, and by one below the doubled one of a read
 shortened-low : (w : Op) (l : List Op) {r : Op} → In r l → shortened w l ≤ 2 * r .finish - 1
@@ -72,14 +48,10 @@ module _ (H : List Op) where
   in-cutting : {w r : Op} → Write H w → In r (cutting H w) → Reads H w r × (r .finish < w .finish)
   in-cutting {w} {r} k m =
       let a = in-keep (finishesBelow w) (readsOf H w) m in
-      let b = in-keep noWrite (keep (sameValue w) H) (a .0) in
-      let c = in-keep (sameValue w) H (b .0) in
-      (record { by = k; mem = c .0; read = not-true _ (b .1); same = sym (eqb-true _ _ (c .1)) }, ltb-true _ _ (a .1))
+      (in-readsOf H k (a .0), ltb-true _ _ (a .1))
 
   cutting-in : {w r : Op} → Reads H w r → r .finish < w .finish → In r (cutting H w)
-  cutting-in {w} d l =
-      let a = keep-in (sameValue w) H (d .mem) (eq-eqb _ _ (sym (d .same))) in
-      keep-in (finishesBelow w) (readsOf H w) (keep-in noWrite (keep (sameValue w) H) a (true-not (d .read))) (lt-ltb _ _ l)
+  cutting-in {w} d l = keep-in (finishesBelow w) (readsOf H w) (readsOf-in H d) (lt-ltb _ _ l)
 
   pub new : (x : Op) → In x H → New H x
   unfolding newFinish

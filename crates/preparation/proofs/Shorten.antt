@@ -13,11 +13,11 @@ use Rattle.history.specs.declared.Op.{Op}
 use Rattle.history.specs.Table.{isWrite}
 use Rattle.history.specs.Screen.{Screened}
 use Rattle.methods.specs.Prepared.{byStart, newFinish, short, shorten, prepared}
-use Rattle.witnesses.specs.Histories.{Write, Reads, Apart, Prepared}
+use Rattle.witnesses.specs.Histories.{Write, Reads, Prepared}
 use Rattle.witnesses.specs.Orders.{Before, Runs, run-nil, run-write, run-read, Orders}
 use Rattle.witnesses.proofs.Places.{place, Bef, bef-here, bef-there, bef-in, bef-in₂, bef-pair, bef-place, Compared, equal, first, second, compared}
 use Rattle.witnesses.proofs.Positions.{orders-witness}
-use Rattle.preparation.proofs.Lists.{Met, alike, ahead, behind, met}
+use Rattle.witnesses.proofs.Parts.{named}
 use Rattle.preparation.proofs.Timed.{Timed, RowsRise, from-sorted, into-sorted, timed}
 use Rattle.preparation.proofs.Finish.{New, whole, cut, new, new-read, new-le, new-first}
 
@@ -164,14 +164,8 @@ module _ (H : List Op) where
           runs = runs o (h .runs);
         }
       where
-        -- one row, one operation
-        same : {x y : Op} → x .row ≡ y .row → Met Apart x y → x ≡ y
-        same e (alike q) = q
-        same e (ahead n) = absurd (n e)
-        same e (behind n) = absurd (n (sym e))
-
         into : (x : Op) → In x H → (y : Op) × In y o × (short H x ≡ short H y) → In x o
-        into x m (y, n, e) = Memᴰ·cast (same (ap (λ u. u .row) e) (met Apart (g .proper .rows) m (sub y n))) n
+        into x m (y, n, e) = Memᴰ·cast (named (g .proper .rows) x y m (sub y n) (ap (λ u. u .row) e)) n
 
         runs : {s e : List ℕ} (l : List Op) → Runs k s (map (short H) l) e → Runs k s l e
         runs [] run-nil = run-nil

@@ -16,7 +16,7 @@ use Rattle.witnesses.specs.Decides.{Decides, no-order, an-order}
 use Rattle.witnesses.specs.Witness.{Witness}
 use Rattle.witnesses.proofs.Parts.{witness-sub}
 use Rattle.witnesses.proofs.Positions.{orders-witness}
-use Rattle.witnesses.proofs.Steps.{near-two}
+use Rattle.witnesses.proofs.Near.{near-two}
 use Rattle.witnesses.proofs.Join.{joins}
 use Rattle.chunks.specs.Chunk.{Rising, Chunk, Placing}
 use Rattle.chunks.proofs.Around.{ordered}

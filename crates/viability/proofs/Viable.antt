@@ -5,7 +5,7 @@ use Prim.Native.Nat.{ℕ, _≤_, _<_}
 use mathlib.Core.Path.{_≡_, refl, sym, ap, _∙_}
 use mathlib.Core.Logic.{_⊎_, inl, inr}
 use mathlib.Core.Bool.{Bool, true, false, _||_}
-use mathlib.Core.List.{List, [], _∷_, _++_, map, List·Memᴰ as In, List·Memᴰ·head as here, List·Memᴰ·tail as there, List·Memᴰ·append-cases, Memᴰ·append-left, Memᴰ·append-right}
+use mathlib.Core.List.{List, [], _∷_, _++_, map, List·Memᴰ as In, List·Memᴰ·head as here, List·Memᴰ·tail as there}
 use native.Mathlib.Omega.{arith}
 use lib.ListN.{take}
 use borrow.Author.Tests.{eqb-true, eq-eqb, not-true}
@@ -13,7 +13,7 @@ use Rattle.lists.specs.Lists.{all}
 use Rattle.lists.specs.Pairs.{Pairs, nil}
 use Rattle.lists.proofs.Tests.{test, both, true-not, and-true, true-and, or-true, true-or}
 use Rattle.lists.proofs.Every.{All?, each, all?, true-all}
-use Rattle.lists.proofs.Pairs.{pairs-head, pairs-tail, pairs-append}
+use Rattle.lists.proofs.Pairs.{pairs-head, pairs-tail}
 use Rattle.history.specs.declared.Op.{Op}
 use Rattle.history.specs.Table.{isWrite}
 use Rattle.methods.specs.Prepared.{noWrite, sameValue}
@@ -21,11 +21,10 @@ use Rattle.methods.specs.Place.{later, rest, segment}
 use Rattle.methods.specs.Zones.{Decision, none, order}
 use Rattle.methods.specs.Fzf.{ofFirst, mayFollow, putBehind, viable, back, firstViable}
 use Rattle.witnesses.specs.Histories.{Write, Reads, Prepared}
-use Rattle.witnesses.specs.Orders.{Before, Runs, run-nil, Orders}
+use Rattle.witnesses.specs.Orders.{run-nil, Orders}
 use Rattle.witnesses.specs.Witness.{Witness}
-use Rattle.witnesses.proofs.Runs.{run-append}
 use Rattle.witnesses.proofs.Parts.{in-later, in-rest, Quiet, stays, prepared-rest, witness-sub}
-use Rattle.witnesses.proofs.Steps.{placed?, from-segment, segment-or-rest, rest-before, segment-pairs, segment-runs, Last, behind, crossed}
+use Rattle.witnesses.proofs.Steps.{step-sound, Last, step-quiet, step-next}
 use Rattle.clusters.proofs.Clusters.{Differ, differ-sym, home}
 use Rattle.viability.proofs.Listed.{Perm, perm-sym, perm-in, perm-pairs}
 
@@ -87,49 +86,26 @@ module _ (w : Op) (l K : List Op) (h : Pass w l K) where
       go [] (inr q) = absurd (both q refl)
       go (v ∷ l) (inr q) = there (here (eqb-true _ _ q))
 
--- SOUND: what a viable order makes. The values passed are those of its writes.
-
-record Built (l K o : List Op) : Type 0 where
-  from : (x : Op) → In x o → In x K
-  into : (x : Op) → In x K → In x o
-  pairs : Pairs Before o
-  runs : Runs 2 [] o (values l)
+-- SOUND: a viable order makes an order of the operations, one step behind the other. The values passed are those of its writes.
 
 data Viable? (l K : List Op) : Decision → Type 0 where
   is-none : Viable? l K none
-  is-order : {o : List Op} → Built l K o → Viable? l K (order o)
+  is-order : {o : List Op} (h : Orders 2 K o) → h .passed ≡ values l → Viable? l K (order o)
 
 viable? : (l K : List Op) → Prepared K → Covers l K → Viable? l K (viable l K)
 unfolding viable putBehind
 viable? [] K g c =
     is-order {o = []}
-    (record { from = λ x m. elim m [ ]; into = λ x m. let (w, k, e) = home g x m in elim (c .into w k) [ ]; pairs = nil; runs = run-nil })
+    (record { from = λ x m. elim m [ ]; into = λ x m. let (w, k, e) = home g x m in elim (c .into w k) [ ]; pairs = nil; passed = []; runs = run-nil })
+    refl
 viable? (w ∷ l) K g c =
     go (all (mayFollow w l) (later w K)) (all? (mayFollow w l) (later w K)) (λ q. viable? l (rest w K) (prepared-rest w q g) (covers-rest q c))
   where
-    k : Write K w
-    k = c .from w (here refl)
-
-    add : {o : List Op} → Pass w l K → Built l (rest w K) o → Built (w ∷ l) K (o ++ segment w K)
-    add {o} h b =
-        record {
-          from = λ x m. from x (List·Memᴰ·append-cases o m);
-          into = λ x m. into x (segment-or-rest w K g k x m);
-          pairs = pairs-append (b .pairs) (segment-pairs w K g k) (λ x y m n. rest-before w K g k x y (b .from x m) (placed? w K g k n));
-          runs = run-append (b .runs) (segment-runs w K g k (values l) (pass-quiet w l K h) (pass-near w l K h));
-        }
-      where
-        from : (x : Op) → In x o ⊎ In x (segment w K) → In x K
-        from x (inl m) = in-rest w K (b .from x m) .0
-        from x (inr m) = from-segment w K g k x (placed? w K g k m)
-
-        into : (x : Op) → In x (segment w K) ⊎ In x (rest w K) → In x (o ++ segment w K)
-        into x (inl m) = Memᴰ·append-right o m
-        into x (inr m) = Memᴰ·append-left (segment w K) (b .into x m)
-
     put : Pass w l K → (a : Decision) → Viable? l (rest w K) a → Viable? (w ∷ l) K (putBehind a (segment w K))
-    put h none is-none = is-none
-    put h (order o) (is-order b) = is-order (add h b)
+    put p none is-none = is-none
+    put p (order o) (is-order h e) =
+        let (r, q) = step-sound w K g (c .from w (here refl)) h (pass-quiet w l K p) (λ x m. rw e (pass-near w l K p x m)) in
+        is-order r (q ∙ ap (λ s. w .value ∷ s) e)
 
     go : (b : Bool) → All? (mayFollow w l) (later w K) b → (Quiet w K → Viable? l (rest w K) (viable l (rest w K))) →
         Viable? (w ∷ l) K (elim b [ true ↦ putBehind (viable l (rest w K)) (segment w K) | false ↦ none ])
@@ -141,9 +117,7 @@ viable-orders l K g c o e = go (viable l K) (viable? l K g c) e
   where
     go : (a : Decision) → Viable? l K a → a ≡ order o → Orders 2 K o
     go none i q = absurd (not-none q)
-    go (order p) (is-order b) q =
-        let h : Orders 2 K p = record { from = b .from; into = b .into; pairs = b .pairs; passed = values l; runs = b .runs } in
-        rw (same-order q) at h
+    go (order p) (is-order h i) q = rw (same-order q) at h
 
 -- COMPLETE: with a witness, the writes by falling position pass.
 
@@ -159,29 +133,29 @@ module _ (pos : Op → ℕ) where
         go z (here e) = omega (arith, ap pos e)
         go z (there m) = omega (arith, pairs-head f z m)
 
-    -- a later operation is a read, of w or of the write before w
+    -- a later operation is a read, of w or of the write before w, which is the last one of the rest
     may-follow : Pass w l K
     unfolding ofFirst
     may-follow o m = true-and (true-not read) (true-or (sameValue w o) (ofFirst l o) (value (g .proper .dict o (in-later w K m .0) read)))
       where
         read : isWrite o ≡ false
-        read = go (test (isWrite o))
-          where
-            go : (isWrite o ≡ true) ⊎ (isWrite o ≡ false) → isWrite o ≡ false
-            go (inl e) = absurd (omega (arith, behind pos g k last o m, last .top o (record { mem = in-later w K m .0; write = e })))
-            go (inr e) = e
+        read = step-quiet k last o m
 
-        -- the write of o is the first of the others: else the first would stand between the two
-        before : (l : List Op) → ((u : Op) → In u l → Write K u × Differ u w) → Falls l → (v : Op) → Reads K v o → In v l → ofFirst l o ≡ true
-        before (u ∷ l) h f v d (here e) = eq-eqb _ _ (sym (d .same) ∙ ap (λ x. x .value) e)
-        before (u ∷ l) h f v d (there i) = let b = h u (here refl) in absurd (crossed pos g k last v o d m u (b .0) (b .1) (pairs-head f v i))
+        first : (v : Op) → v .value ≡ o .value → (l : List Op) → Falls l → ((u : Op) → In u l → pos u ≤ pos v) → In v l → ofFirst l o ≡ true
+        first v e (u ∷ l) f t (here q) = eq-eqb _ _ (sym e ∙ ap (λ x. x .value) q)
+        first v e (u ∷ l) f t (there i) = absurd (omega (arith, pairs-head f v i, t u (here refl)))
+
+        other : (v : Op) → Reads K v o → In v l → ofFirst l o ≡ true
+        other v d i =
+            let t = step-next k last v o d m (λ e. pairs-head (c .apart) v i (sym e)) in
+            first v (d .same) l (pairs-tail f) (λ u j. t .top u (covers-rest (step-quiet k last) c .from u j)) i
 
         value : (v : Op) × Reads K v o → (sameValue w o ≡ true) ⊎ (ofFirst l o ≡ true)
         value (v, d) = go (c .into v (d .by))
           where
             go : In v (w ∷ l) → (sameValue w o ≡ true) ⊎ (ofFirst l o ≡ true)
             go (here e) = inl (eq-eqb _ _ (sym (d .same) ∙ ap (λ x. x .value) e))
-            go (there i) = inr (before l (λ u j. (c .from u (there j), λ e. pairs-head (c .apart) u j (sym e))) (pairs-tail f) v d i)
+            go (there i) = inr (other v d i)
 
   pub viable-complete : (l K : List Op) → Prepared K → Witness pos 2 K → Covers l K → Falls l → (o : List Op) × (viable l K ≡ order o)
   unfolding viable putBehind

@@ -2,55 +2,41 @@
 -- Assumes nothing.
 use Prim.Native.Nat.{ℕ, _+_, _≤_, _<_}
 use mathlib.Core.Path.{_≡_, refl, sym, ap, _∙_}
-use mathlib.Core.Logic.{_≢_}
-use mathlib.Core.Bool.{true}
 use mathlib.Core.List.{List, [], _∷_, _++_, List·Memᴰ as In, List·Memᴰ·head as here, List·Memᴰ·tail as there}
 use native.Mathlib.Omega.{arith}
 use native.Mathlib.Decide.{decLe}
 use lib.ListN.{length}
+use Rattle.lists.proofs.Tests.{both}
 use Rattle.history.specs.declared.Op.{Op}
-use Rattle.history.specs.Table.{isWrite}
 use Rattle.methods.specs.Place.{rest, writes, writeCount}
 use Rattle.methods.specs.Lbt.{candidates, Walk, fresh, follow}
-use Rattle.witnesses.specs.Histories.{Write, Reads, Prepared}
+use Rattle.witnesses.specs.Histories.{Write, Prepared}
 use Rattle.witnesses.specs.Witness.{Witness}
-use Rattle.witnesses.proofs.Parts.{in-later, in-rest, in-writes, writes-in, stays, witness-sub, prepared-rest}
-use Rattle.witnesses.proofs.Steps.{Last, behind, crossed}
+use Rattle.witnesses.proofs.Parts.{in-later, in-rest, in-writes, writes-in, witness-sub, prepared-rest}
+use Rattle.witnesses.proofs.Steps.{Last, step-quiet, step-next, last-one}
 use Rattle.walks.proofs.Epochs.{Bad, late-write, two-values, no-writer, Next, Fails, fails-now, fails-on, has-write}
 use Rattle.walks.proofs.Rounds.{candidate-in, won-part, Walks, ended, stuck, onward}
 
 module _ (pos : Op → ℕ) where
-  module _ {H : List Op} {w : Op} (g : Prepared H) (k : Witness pos 2 H) (a : Last pos H w) where
-    -- no step from the last write fails
-    not-bad : Bad w H → ⊥
-    not-bad (late-write o m e) = omega (arith, behind pos g k a o m, a .top o (record { mem = in-later w H m .0; write = e }))
-    not-bad (no-writer q o m n) = let d = g .proper .dict o (in-later w H m .0) (q o m) in n (d .0) (d .1 .by) (d .1 .same)
-    not-bad (two-values q x y mx my nx ny n) =
-        let c = g .proper .dict x (in-later w H mx .0) (q x mx) in
-        let d = g .proper .dict y (in-later w H my .0) (q y my) in
-        go (c .0) (d .0) (c .1) (d .1) (decLe (pos (d .0)) (pos (c .0)))
-      where
-        go : (v u : Op) → Reads H v x → Reads H u y → Dec (pos u ≤ pos v) → ⊥
-        go v u c d (yes h) =
-            let i : pos u ≢ pos v = λ p. n (sym (d .same) ∙ (ap (λ z. z .value) (k .apart u v (d .by .mem) (c .by .mem) p) ∙ c .same)) in
-            crossed pos g k a u y d my v (c .by) (λ e. nx (sym (c .same) ∙ e)) (omega arith)
-        go v u c d (no h) = crossed pos g k a v x c mx u (d .by) (λ e. ny (sym (d .same) ∙ e)) (omega arith)
+  -- no step from the last write fails
+  not-bad : {H : List Op} {w : Op} → Prepared H → Witness pos 2 H → Last pos H w → Bad w H → ⊥
+  not-bad g k a (late-write o m e) = both e (step-quiet k a o m)
+  not-bad {H} {w} g k a (no-writer q o m n) = let (v, d) = g .proper .dict o (in-later w H m .0) (q o m) in n v (d .by) (d .same)
+  not-bad {H} {w} g k a (two-values q x y mx my nx ny n) =
+      let (v, c) = g .proper .dict x (in-later w H mx .0) (q x mx) in
+      let (u, d) = g .proper .dict y (in-later w H my .0) (q y my) in
+      let e : u ≡ v = last-one (witness-sub (λ z m. in-rest w H m .0) k) (step-next k a u y d my (λ e. ny (sym (d .same) ∙ e))) (step-next k a v x c mx (λ e. nx (sym (c .same) ∙ e))) in
+      n (sym (d .same) ∙ (ap (λ z. z .value) e ∙ c .same))
 
-    -- and the write that it asks for is the last one of the rest
-    next-last : {v : Op} → Next w H v → Last pos (rest w H) v
-    next-last {v} x = record { wr = stays w H (x .quiet) v (x .asked) (x .other); top = λ z m. go z (in-rest w H (m .mem)) (m .write) (decLe (pos z) (pos v)) }
-      where
-        asked : Reads H v (x .why)
-        asked = record { by = x .asked; mem = in-later w H (x .late) .0; read = x .quiet (x .why) (x .late); same = sym (x .asks) }
-
-        go : (z : Op) → In z H × (z .start ≤ w .finish) × (z .value ≢ w .value) → isWrite z ≡ true → Dec (pos z ≤ pos v) → pos z ≤ pos v
-        go z i e (yes h) = h
-        go z i e (no h) = absurd (crossed pos g k a v (x .why) asked (x .late) z (record { mem = i .0; write = e }) (i .2) (omega arith))
+  -- and the write that it asks for is the last one of the rest
+  next-last : {H : List Op} {w v : Op} → Witness pos 2 H → Last pos H w → Next w H v → Last pos (rest w H) v
+  next-last {H} {w} {v} k a x =
+      step-next k a v (x .why) (record { by = x .asked; mem = in-later w H (x .late) .0; read = x .quiet (x .why) (x .late); same = sym (x .asks) }) (x .late) (x .other)
 
   -- so no epoch from the last write fails
   not-fails : {H : List Op} {w : Op} → Prepared H → Witness pos 2 H → Last pos H w → Fails w H → ⊥
   not-fails g k a (fails-now b) = not-bad g k a b
-  not-fails {H} {w} g k a (fails-on x t) = not-fails (prepared-rest w (x .quiet) g) (witness-sub (λ y m. in-rest w H m .0) k) (next-last g k a x) t
+  not-fails {H} {w} g k a (fails-on x t) = not-fails (prepared-rest w (x .quiet) g) (witness-sub (λ y m. in-rest w H m .0) k) (next-last k a x) t
 
   above : {x : Op} {l : List Op} (m : Op) → pos x ≤ pos m → ((z : Op) → In z l → pos z ≤ pos m) → (z : Op) → In z (x ∷ l) → pos z ≤ pos m
   above m h u z (here e) = omega (arith, ap pos e)

@@ -12,12 +12,13 @@ use Rattle.lists.specs.Pairs.{Pairs, cons}
 use Rattle.lists.proofs.Tests.{test, both, true-not}
 use Rattle.lists.proofs.Members.{in-keep, keep-in}
 use Rattle.lists.proofs.Counts.{keep-le, keep-lt}
-use Rattle.lists.proofs.Pairs.{pairs-keep}
+use Rattle.lists.proofs.Pairs.{pairs-keep, pairs-map, pairs-both}
 use Rattle.history.specs.declared.Op.{Op}
 use Rattle.history.specs.Table.{isWrite}
-use Rattle.methods.specs.Prepared.{sameValue}
+use Rattle.methods.specs.Prepared.{noWrite, sameValue, readsOf}
 use Rattle.methods.specs.Place.{otherValue, startsAfter, startsBy, later, early, others, rest, writes, writeCount}
 use Rattle.witnesses.specs.Histories.{Write, Reads, Apart, Proper, Prepared}
+use Rattle.witnesses.specs.Orders.{Before}
 use Rattle.witnesses.specs.Witness.{Witness}
 
 -- a row is that of one operation
@@ -60,6 +61,18 @@ mine-or-not w l {o} m = go (test (sameValue w o))
     go : (sameValue w o ≡ true) ⊎ (sameValue w o ≡ false) → (o .value ≡ w .value) ⊎ In o (keep (otherValue w) l)
     go (inl e) = inl (eqb-true _ _ e)
     go (inr e) = inr (keep-in (otherValue w) l m (true-not e))
+
+-- The reads of a write are those that it dictates.
+
+module _ (H : List Op) {w r : Op} where
+  pub in-readsOf : Write H w → In r (readsOf H w) → Reads H w r
+  in-readsOf k m =
+      let a = in-keep noWrite (keep (sameValue w) H) m in
+      let b = in-keep (sameValue w) H (a .0) in
+      record { by = k; mem = b .0; read = not-true _ (a .1); same = sym (eqb-true _ _ (b .1)) }
+
+  pub readsOf-in : Reads H w r → In r (readsOf H w)
+  readsOf-in d = keep-in noWrite _ (keep-in (sameValue w) H (d .mem) (eq-eqb _ _ (sym (d .same)))) (true-not (d .read))
 
 -- nothing later is a write
 abbrev pub Quiet : Op → List Op → Type 0
@@ -138,6 +151,10 @@ module _ (p : Op → Bool) {H : List Op} (c : Closed p H) where
         ends = λ x y m n. g .ends x y (sub x m) (sub y n);
         first = λ w r d. g .first w r (reads-sub sub d);
       }
+
+-- in its own sequence, by rising start, no operation precedes an earlier one
+pub in-sequence : {H : List Op} → Prepared H → Pairs Before H
+in-sequence g = pairs-map (pairs-both (g .proper .rows) (g .rising)) (λ x y m n r. record { apart = r .0; valid = omega (arith, r .1, g .proper .span y n) })
 
 -- what the placing of w leaves is prepared again
 pub prepared-rest : (w : Op) {H : List Op} → Quiet w H → Prepared H → Prepared (rest w H)

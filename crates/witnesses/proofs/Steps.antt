@@ -1,11 +1,11 @@
--- The placing step, shared by LBT and FZF (000, figure 2, lines 13 to 20): what it places and what it leaves, that the two are apart in time,
--- and what a witness says of the last write.
+-- The placing step, shared by LBT and FZF (000, figure 2, lines 13 to 20): sound (`step-sound`), and complete from the last write of a witness
+-- (`step-quiet`, `step-next`).
 -- Assumes nothing.
 use Prim.Native.Nat.{ℕ, _≤_, _<_}
-use mathlib.Core.Path.{_≡_, sym, ap, _∙_}
+use mathlib.Core.Path.{_≡_, refl, sym, ap, _∙_}
 use mathlib.Core.Logic.{_⊎_, inl, inr, _≢_}
 use mathlib.Core.Bool.{true, false}
-use mathlib.Core.List.{List, [], _∷_, List·Memᴰ as In, List·Memᴰ·head as here, List·Memᴰ·tail as there, List·Memᴰ·append-cases, Memᴰ·append-left, Memᴰ·append-right, Memᴰ·cast, List·Memᴰ·eq-of-singleton as alone}
+use mathlib.Core.List.{List, _∷_, _++_, List·Memᴰ as In, List·Memᴰ·head as here, List·Memᴰ·tail as there, List·Memᴰ·append-cases, Memᴰ·append-left, Memᴰ·append-right, Memᴰ·cast}
 use native.Mathlib.Omega.{arith}
 use native.Mathlib.Decide.{decLt}
 use lib.ListN.{take}
@@ -14,18 +14,19 @@ use Rattle.lists.specs.Lists.{keep}
 use Rattle.lists.specs.Pairs.{Pairs, cons}
 use Rattle.lists.proofs.Tests.{test, both, true-not}
 use Rattle.lists.proofs.Members.{in-keep, keep-in}
-use Rattle.lists.proofs.Pairs.{pairs-one, pairs-keep, pairs-append, pairs-map, pairs-both}
+use Rattle.lists.proofs.Pairs.{pairs-keep, pairs-append}
 use Rattle.history.specs.declared.Op.{Op}
 use Rattle.history.specs.Table.{isWrite}
 use Rattle.methods.specs.Prepared.{noWrite, sameValue}
 use Rattle.methods.specs.Place.{startsAfter, startsBy, later, early, rest, reads, segment}
 use Rattle.witnesses.specs.Histories.{Write, Reads, Prepared}
-use Rattle.witnesses.specs.Orders.{Before, Runs, run-write}
-use Rattle.witnesses.specs.Witness.{Between, Witness}
-use Rattle.witnesses.proofs.Parts.{named, in-later, in-early, in-rest, later-or-early, mine-or-not, Quiet}
-use Rattle.witnesses.proofs.Runs.{run-reads}
+use Rattle.witnesses.specs.Orders.{Before, run-write, Orders}
+use Rattle.witnesses.specs.Witness.{Witness}
+use Rattle.witnesses.proofs.Parts.{named, in-sequence, in-later, in-early, in-rest, later-or-early, mine-or-not, Quiet, stays}
+use Rattle.witnesses.proofs.Runs.{run-append, run-reads}
+use Rattle.witnesses.proofs.Near.{near-two}
 
--- What the step places.
+-- What the step places and what it leaves.
 
 module _ (w : Op) (H : List Op) (g : Prepared H) (k : Write H w) where
   in-reads : {x : Op} → In x (reads w H) → In x H × (x .start ≤ w .finish) × (x .value ≡ w .value) × (isWrite x ≡ false)
@@ -39,12 +40,12 @@ module _ (w : Op) (H : List Op) (g : Prepared H) (k : Write H w) where
   read-ends : {x : Op} → In x (reads w H) → w .finish < x .finish
   read-ends {x} m = let a = in-reads m in g .first w x (record { by = k; mem = a .0; read = a .3; same = sym (a .2) })
 
-  pub data Placed (x : Op) : Type 0 where
+  data Placed (x : Op) : Type 0 where
     is-w : x ≡ w → Placed x
     is-mine : In x (reads w H) → Placed x
     is-late : In x (later w H) → Placed x
 
-  pub placed? : {x : Op} → In x (segment w H) → Placed x
+  placed? : {x : Op} → In x (segment w H) → Placed x
   placed? (here e) = is-w e
   placed? {x} (there m) = go (List·Memᴰ·append-cases (reads w H) m)
     where
@@ -52,13 +53,13 @@ module _ (w : Op) (H : List Op) (g : Prepared H) (k : Write H w) where
       go (inl i) = is-mine i
       go (inr i) = is-late i
 
-  pub from-segment : (x : Op) → Placed x → In x H
+  from-segment : (x : Op) → Placed x → In x H
   from-segment x (is-w e) = Memᴰ·cast e (k .mem)
   from-segment x (is-mine m) = in-reads m .0
   from-segment x (is-late m) = in-later w H m .0
 
   -- each operation is placed or rests
-  pub segment-or-rest : (x : Op) → In x H → In x (segment w H) ⊎ In x (rest w H)
+  segment-or-rest : (x : Op) → In x H → In x (segment w H) ⊎ In x (rest w H)
   segment-or-rest x m = go (later-or-early w H m)
     where
       mine : x .value ≡ w .value → In x (early w H) → (isWrite x ≡ true) ⊎ (isWrite x ≡ false) → In x (segment w H)
@@ -74,7 +75,7 @@ module _ (w : Op) (H : List Op) (g : Prepared H) (k : Write H w) where
       go (inr i) = own i (mine-or-not w (early w H) i)
 
   -- what rests may stand before what is placed
-  pub rest-before : (x y : Op) → In x (rest w H) → Placed y → Before x y
+  rest-before : (x y : Op) → In x (rest w H) → Placed y → Before x y
   rest-before x y m p = record { apart = λ e. go p (named (g .proper .rows) x y (r .0) (from-segment y p) e); valid = ends p }
     where
       r : In x H × (x .start ≤ w .finish) × (x .value ≢ w .value)
@@ -90,20 +91,14 @@ module _ (w : Op) (H : List Op) (g : Prepared H) (k : Write H w) where
       go (is-mine n) q = r .2 (ap (λ o. o .value) q ∙ in-reads n .2)
       go (is-late n) q = omega (arith, r .1, in-later w H n .1, ap (λ o. o .start) q)
 
-  pub segment-pairs : Pairs Before (segment w H)
+  segment-pairs : Pairs Before (segment w H)
   segment-pairs = cons (λ y m. first y (List·Memᴰ·append-cases (reads w H) m)) (pairs-append own late across)
     where
-      both-ways : Pairs (λ a b. (a .row ≢ b .row) × (a .start < b .start)) H
-      both-ways = pairs-both (g .proper .rows) (g .rising)
-
-      rising : {l : List Op} → ((x : Op) → In x l → In x H) → Pairs (λ a b. (a .row ≢ b .row) × (a .start < b .start)) l → Pairs Before l
-      rising i p = pairs-map p (λ x y m n r. record { apart = r .0; valid = omega (arith, r .1, g .proper .span y (i y n)) })
-
       own : Pairs Before (reads w H)
-      own = rising (λ x m. in-reads m .0) (pairs-keep noWrite (pairs-keep (sameValue w) (pairs-keep (startsBy w) both-ways)))
+      own = pairs-keep noWrite (pairs-keep (sameValue w) (pairs-keep (startsBy w) (in-sequence g)))
 
       late : Pairs Before (later w H)
-      late = rising (λ x m. in-later w H m .0) (pairs-keep (startsAfter w) both-ways)
+      late = pairs-keep (startsAfter w) (in-sequence g)
 
       across : (x y : Op) → In x (reads w H) → In y (later w H) → Before x y
       across x y m n =
@@ -128,64 +123,64 @@ module _ (w : Op) (H : List Op) (g : Prepared H) (k : Write H w) where
             valid = omega (arith, b .1, g .proper .span w (k .mem), g .proper .span y (b .0));
           }
 
-  -- the segment's reads are of w, or of the value that comes second
-  pub segment-runs : (s : List ℕ) → Quiet w H → ((o : Op) → In o (later w H) → In (o .value) (take 2 (w .value ∷ s))) →
-      Runs 2 s (segment w H) (w .value ∷ s)
-  segment-runs s q h = run-write (k .write) (run-reads _ (λ x m. go x (List·Memᴰ·append-cases (reads w H) m)))
+  -- SOUND: what is placed, behind an order of what is left, makes an order of all, where what is later is reads of the two last values.
+  pub step-sound : {o : List Op} (h : Orders 2 (rest w H) o) → Quiet w H → ((x : Op) → In x (later w H) → In (x .value) (take 2 (w .value ∷ h .passed))) →
+      (r : Orders 2 H (o ++ segment w H)) × (r .passed ≡ w .value ∷ h .passed)
+  step-sound {o} h q v = (
+    record {
+      from = λ x m. from x (List·Memᴰ·append-cases o m);
+      into = λ x m. into x (segment-or-rest x m);
+      pairs = pairs-append (h .pairs) segment-pairs (λ x y m n. rest-before x y (h .from x m) (placed? n));
+      passed = w .value ∷ h .passed;
+      runs = run-append (h .runs) (run-write (k .write) (run-reads _ (λ x m. read x (List·Memᴰ·append-cases (reads w H) m))));
+    },
+    refl,
+  )
     where
-      go : (x : Op) → In x (reads w H) ⊎ In x (later w H) → (isWrite x ≡ false) × In (x .value) (take 2 (w .value ∷ s))
-      go x (inl m) = let a = in-reads m in (a .3, here (a .2))
-      go x (inr m) = (q x m, h x m)
+      from : (x : Op) → In x o ⊎ In x (segment w H) → In x H
+      from x (inl m) = in-rest w H (h .from x m) .0
+      from x (inr m) = from-segment x (placed? m)
 
--- What a witness says.
+      into : (x : Op) → In x (segment w H) ⊎ In x (rest w H) → In x (o ++ segment w H)
+      into x (inl m) = Memᴰ·append-right o m
+      into x (inr m) = Memᴰ·append-left (segment w H) (h .into x m)
 
--- no write is between a read and its write (k = 1); or any two that are between are one (k = 2)
-module _ {pos : Op → ℕ} {H : List Op} where
-  pub near-one : Witness pos 1 H → (w r : Op) → Reads H w r → (z : Op) → Write H z → pos w < pos z → pos z < pos r → ⊥
-  near-one k w r d z m h l = omega (arith, k .near w r d (z ∷ []) (pairs-one z) (λ y i. rw (alone i) (record { write = m; after = h; before = l })))
+      read : (x : Op) → In x (reads w H) ⊎ In x (later w H) → (isWrite x ≡ false) × In (x .value) (take 2 (w .value ∷ h .passed))
+      read x (inl m) = let a = in-reads m in (a .3, here (a .2))
+      read x (inr m) = (q x m, v x m)
 
-  pub near-two : Witness pos 2 H → (w r : Op) → Reads H w r → (y z : Op) → Write H y → Write H z → pos w < pos y → pos y < pos r → pos w < pos z →
-      pos z < pos r → y ≡ z
-  near-two k w r d y z my mz h₁ h₂ h₃ h₄ = go (decLt (pos y) (pos z)) (decLt (pos z) (pos y))
-    where
-      y-in : Between pos H w r y
-      y-in = record { write = my; after = h₁; before = h₂ }
-
-      z-in : Between pos H w r z
-      z-in = record { write = mz; after = h₃; before = h₄ }
-
-      pair : {u v : Op} → Between pos H w r u → Between pos H w r v → (x : Op) → In x (u ∷ (v ∷ [])) → Between pos H w r x
-      pair a b x (here e) = rw e a
-      pair a b x (there i) = rw (alone i) b
-
-      two : (u v : Op) → Between pos H w r u → Between pos H w r v → pos u < pos v → ⊥
-      two u v a b l = omega (arith, k .near w r d (u ∷ (v ∷ [])) (cons {x = u} {l = v ∷ []} (λ x i. rw (alone i) l) (pairs-one v)) (pair a b))
-
-      go : Dec (pos y < pos z) → Dec (pos z < pos y) → y ≡ z
-      go (yes l) e = absurd (two y z y-in z-in l)
-      go (no l) (yes m) = absurd (two z y z-in y-in m)
-      go (no l) (no m) = k .apart y z (my .mem) (mz .mem) (omega arith)
+-- COMPLETE: what a witness says of the step from its last write.
 
 -- w is the last write
 pub record Last (pos : Op → ℕ) (H : List Op) (w : Op) : Type 0 where
   pub wr : Write H w
   pub top : (z : Op) → Write H z → pos z ≤ pos w
 
-module _ (pos : Op → ℕ) where
-  module _ {H : List Op} {w : Op} (g : Prepared H) (k : Witness pos 2 H) (a : Last pos H w) where
-    -- what is later than the last write comes behind it, and a write of another value before it
-    pub behind : (o : Op) → In o (later w H) → pos w < pos o
-    behind o m = let i = in-later w H m in k .valid w o (a .wr .mem) (i .0) (i .1)
+module _ {pos : Op → ℕ} {H : List Op} {w : Op} (k : Witness pos 2 H) (a : Last pos H w) where
+  -- what is later than the last write comes behind it, so it is no write
+  behind : (o : Op) → In o (later w H) → pos w < pos o
+  behind o m = let i = in-later w H m in k .valid w o (a .wr .mem) (i .0) (i .1)
 
-    pub below : (z : Op) → Write H z → z .value ≢ w .value → pos z < pos w
-    below z m n =
-        let t = a .top z m in
-        let d : pos z ≢ pos w = λ p. n (ap (λ x. x .value) (k .apart z w (m .mem) (a .wr .mem) p)) in
-        omega arith
+  pub step-quiet : Quiet w H
+  step-quiet o m = go (test (isWrite o))
+    where
+      go : (isWrite o ≡ true) ⊎ (isWrite o ≡ false) → isWrite o ≡ false
+      go (inl e) = absurd (omega (arith, behind o m, a .top o (record { mem = in-later w H m .0; write = e })))
+      go (inr e) = e
 
-    -- so the write of a later read has no write of another value than w's behind it
-    pub crossed : (v x : Op) → Reads H v x → In x (later w H) → (z : Op) → Write H z → z .value ≢ w .value → pos v < pos z → ⊥
-    crossed v x d m z mz n h =
-        let b = behind x m in
-        let t = below z mz n in
-        n (ap (λ u. u .value) (near-two k v x d z w mz (a .wr) h (omega arith) (omega arith) b))
+  -- The write v of a later read, if it is not w, is the last one of the rest: else it has w and another write between it and its read.
+  pub step-next : (v o : Op) → Reads H v o → In o (later w H) → v .value ≢ w .value → Last pos (rest w H) v
+  step-next v o d m n = record { wr = stays w H step-quiet v (d .by) n; top = λ z i. go z (in-rest w H (i .mem)) (i .write) (decLt (pos v) (pos z)) }
+    where
+      go : (z : Op) → In z H × (z .start ≤ w .finish) × (z .value ≢ w .value) → isWrite z ≡ true → Dec (pos v < pos z) → pos z ≤ pos v
+      go z i e (no h) = omega arith
+      go z i e (yes h) =
+          let kz : Write H z = record { mem = i .0; write = e } in
+          let d′ : pos z ≢ pos w = λ q. i .2 (ap (λ x. x .value) (k .apart z w (i .0) (a .wr .mem) q)) in
+          let b = behind o m in
+          let t = a .top z kz in
+          absurd (i .2 (ap (λ x. x .value) (near-two k v o d z w kz (a .wr) h (omega arith) (omega arith) b)))
+
+-- there is one last write
+pub last-one : {pos : Op → ℕ} {H : List Op} {u v : Op} → Witness pos 2 H → Last pos H u → Last pos H v → u ≡ v
+last-one {u = u} {v = v} k a b = k .apart u v (a .wr .mem) (b .wr .mem) (omega (arith, a .top v (b .wr), b .top u (a .wr)))
