@@ -1,17 +1,17 @@
 -- The method of each question decides the prepared history of a screened register, and so the register as it is, in a bounded number of trials.
 -- Assumes nothing.
 use Prim.Native.Nat.{ℕ, _+_, _*_, _-_, _/_, _≤_, _<_}
-use mathlib.Core.Path.{_≡_, refl, ap, _∙_}
+use mathlib.Core.Path.{_≡_, refl}
 use mathlib.Core.Logic.{_⊎_, inl, inr}
 use mathlib.Core.Bool.{Bool, true, false, cond}
-use mathlib.Core.List.{List, [], _∷_, map}
+use mathlib.Core.List.{List}
 use native.Mathlib.Omega.{arith}
 use lib.Dec.{eqb}
 use borrow.Author.Tests.{eqb-true}
 use Rattle.lists.specs.Pairs.{Pairs}
 use Rattle.history.specs.declared.Op.{Op}
 use Rattle.history.specs.Screen.{Screened}
-use Rattle.methods.specs.Prepared.{byStart, short, prepared}
+use Rattle.methods.specs.Prepared.{prepared}
 use Rattle.methods.specs.Place.{writeCount}
 use Rattle.methods.specs.Zones.{Decision, none, order, zones}
 use Rattle.methods.specs.Lbt.{trials, decided, lbt}
@@ -25,7 +25,7 @@ use Rattle.viability.proofs.Two.{fzf-decides}
 use Rattle.walks.proofs.Decides.{lbt-decides, few-trials, within-half}
 use Rattle.meaning.specs.Marked.{Enough, trialsOf}
 use Rattle.preparation.proofs.Counts.{count-prepared}
-use Rattle.preparation.proofs.Shorten.{prepared-history, prepared-orders, orders-prepared}
+use Rattle.preparation.proofs.Shorten.{prepared-history, prepared-orders, orders-rows}
 
 -- Zones, LBT and FZF, by their question.
 method-decides : (question : ℕ) (H : List Op) → (question ≡ 1) ⊎ (question ≡ 2) ⊎ (question ≡ 3) → Prepared H → Decides (kOf question) H (method question H .decision)
@@ -39,10 +39,6 @@ pub data Settles (k : ℕ) (h : List Op) : Decision → Type 0 where
   settles-none : ((o : List Op) → Orders k h o → ⊥) → Settles k h none
   settles-order : {p o : List Op} → rowNumbers p ≡ rowNumbers o → Orders k h o → Settles k h (order p)
 
-short-rows : (R o : List Op) → rowNumbers (map (short R) o) ≡ rowNumbers o
-short-rows R [] = refl
-short-rows R (x ∷ o) = ap (λ l. x .row ∷ l) (short-rows R o)
-
 module _ {size : ℕ} {h : List Op} (s : Screened size h) (a : Pairs (λ x y. x .row < y .row) h) (question : ℕ) where
   pub method-settles : (question ≡ 1) ⊎ (question ≡ 2) ⊎ (question ≡ 3) → Settles (kOf question) h (method question (prepared h) .decision)
   method-settles asked = go _ (method-decides question (prepared h) asked (prepared-history s a))
@@ -50,8 +46,8 @@ module _ {size : ℕ} {h : List Op} (s : Screened size h) (a : Pairs (λ x y. x 
       go : (d : Decision) → Decides (kOf question) (prepared h) d → Settles (kOf question) h d
       go none (no-order n) = settles-none (λ o k. n _ (prepared-orders s a k))
       go (order p) (an-order k) =
-          let (o, e, i) = orders-prepared s a k in
-          settles-order {p = p} {o = o} (ap (λ l. rowNumbers l) e ∙ short-rows (byStart h) o) i
+          let (o, e, i) = orders-rows s a k in
+          settles-order {p = p} {o = o} e i
 
   -- 2W - 1 trials are always enough, and W (W + 1) / 2 are no fewer
   pub always-enough : trialsOf h question ≤ 2 * writeCount h - 1

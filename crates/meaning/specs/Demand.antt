@@ -43,7 +43,8 @@ pub record Demand (t : List ℕ) (register question allowance : ℕ) (list : Lis
       (out .answer .code ≡ number fresh) ↔ SomeOrder t register question
   pub stale-exactly : Ready t register question list → Allowed t register question allowance →
       (out .answer .code ≡ number stale) ↔ NoOrder t register question
-  -- with fresh the list holds such an order, and without it the list is untouched; no allowance and no list makes a stale mark wrong
+  -- with fresh the list holds such an order, and without it the list is untouched; and stale is never said where there is an order, whatever
+  -- the allowance and the list
   pub order : out .answer .code ≡ number fresh → Written t register question list (out .list)
   pub untouched : out .answer .code ≢ number fresh → out .list ≡ list
   pub no-order : out .answer .code ≡ number stale → NoOrder t register question

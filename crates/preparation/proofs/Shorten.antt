@@ -13,6 +13,7 @@ use Rattle.history.specs.declared.Op.{Op}
 use Rattle.history.specs.Table.{isWrite}
 use Rattle.history.specs.Screen.{Screened}
 use Rattle.methods.specs.Prepared.{byStart, newFinish, short, shorten, prepared}
+use Rattle.methods.specs.Mark.{rowNumbers}
 use Rattle.witnesses.specs.Histories.{Write, Reads, Prepared}
 use Rattle.witnesses.specs.Orders.{Before, Runs, run-nil, run-write, run-read, Orders}
 use Rattle.witnesses.proofs.Places.{place, Bef, bef-here, bef-there, bef-in, bef-in₂, bef-pair, bef-place, Compared, equal, first, second, compared}
@@ -172,6 +173,10 @@ module _ (H : List Op) where
         runs (x ∷ l) (run-write w t) = run-write (sym (short-write x) ∙ w) (runs l t)
         runs (x ∷ l) (run-read n i t) = run-read (sym (short-write x) ∙ n) i (runs l t)
 
+short-rows : (H o : List Op) → rowNumbers (map (short H) o) ≡ rowNumbers o
+short-rows H [] = refl
+short-rows H (x ∷ o) = ap (λ l. x .row ∷ l) (short-rows H o)
+
 -- an order depends on the members only
 order-of : {H L : List Op} {k : ℕ} {o : List Op} → ((x : Op) → In x H → In x L) → ((x : Op) → In x L → In x H) → Orders k H o → Orders k L o
 order-of i j h = record { from = λ x m. i x (h .from x m); into = λ x m. h .into x (j x m); pairs = h .pairs; passed = h .passed; runs = h .runs }
@@ -190,3 +195,7 @@ module _ {size : ℕ} {h : List Op} (s : Screened size h) (a : RowsRise h) where
   orders-prepared {p = p} g =
       let (o, e, sub) = unshorten (byStart h) p (g .from) in
       (o, e, order-of from-sorted into-sorted (short-orders (byStart h) (timed s a) o sub (rw e at g)))
+
+  -- the same by row numbers, which stamps do not touch
+  pub orders-rows : {k : ℕ} {p : List Op} → Orders k (prepared h) p → (o : List Op) × (rowNumbers p ≡ rowNumbers o) × Orders k h o
+  orders-rows g = let (o, e, i) = orders-prepared g in (o, ap (λ l. rowNumbers l) e ∙ short-rows (byStart h) o, i)
