@@ -1,0 +1,5 @@
+-- The laws of positions, and of the operations at them.
+pub mod Places
+pub mod Latest
+pub mod Ops
+pub mod Columns

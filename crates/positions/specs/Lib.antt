@@ -1,0 +1,3 @@
+-- A prepared history in columns.
+pub mod Places
+pub mod Columns
