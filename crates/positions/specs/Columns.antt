@@ -6,11 +6,12 @@ use mathlib.Core.Path.{_≡_}
 use mathlib.Core.Bool.{Bool, true, not}
 use mathlib.Core.List.{List, map}
 use lib.ListN.{length, getD}
-use lib.Dec.{eqb}
+use lib.Dec.{leb, eqb}
+use Rattle.lists.specs.Sorts.{sort}
 use Rattle.history.specs.declared.Op.{Op}
 use Rattle.history.specs.Table.{isWrite}
 use Rattle.witnesses.specs.Histories.{Prepared}
-use Rattle.positions.specs.Places.{and, latest}
+use Rattle.positions.specs.Places.{upto, and, latest}
 
 -- start and finish; the position of the write, of a write its own; of a write its last read and of a read the one before it, each as one more
 -- than the position, and 0 for none
@@ -43,6 +44,14 @@ mine writer w j = eqb (getD writer j 0) w
 
 abbrev pub readOf : List ℕ → ℕ → ℕ → Bool
 readOf writer w = and (mine writer w) (isRead writer)
+
+-- i finishes no sooner than j
+abbrev pub endsBefore : Cols → ℕ → ℕ → Bool
+endsBefore C i j = leb (getD (C .finish) j 0) (getD (C .finish) i 0)
+
+-- the writes by falling finish
+unfoldable pub byFinish : Cols → List ℕ
+byFinish C = sort (endsBefore C) (upto (isOwn (C .writer)) (size C))
 
 -- each cluster's reads are a chain, from the last one back
 pub record Linked (writer last prev : List ℕ) : Type 0 where

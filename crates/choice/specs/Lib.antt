@@ -1,0 +1,3 @@
+-- The orders of a chunk that figure 4 lists, tried one by one.
+pub mod Viable
+pub mod Offered

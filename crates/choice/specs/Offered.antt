@@ -1,0 +1,83 @@
+-- The orders that figure 4 lists for a chunk, by position (document 01, "FZF"): t are the writes of its forward clusters and b those of its
+-- backward ones, both by low end.
+-- Assumes nothing.
+use Prim.Native.Nat.{ℕ, suc, zero, _+_, _-_, _≤_}
+use mathlib.Core.Path.{_≡_}
+use mathlib.Core.Bool.{Bool, true, false, not, cond}
+use mathlib.Core.List.{List, [], _∷_, _++_, map, List·Memᴰ as In}
+use lib.ListN.{length, getD}
+use lib.Dec.{eqb, ltb}
+use Rattle.lists.specs.Pairs.{Pairs}
+use Rattle.methods.specs.Zones.{none, order}
+use Rattle.methods.specs.Fzf.{firstViable, listed}
+use Rattle.positions.specs.Places.{Unlike}
+use Rattle.positions.specs.Columns.{Cols, ops, Says}
+use Rattle.placing.specs.declared.State.{State}
+use Rattle.placing.specs.declared.Tried.{Tried}
+use Rattle.placing.specs.States.{left, laid, Holds, Whose}
+
+-- a list of positions, last first
+unfoldable pub backward : List ℕ → List ℕ
+backward [] = []
+backward (x ∷ l) = backward l ++ (x ∷ [])
+
+-- a list with its first two swapped, or as it is
+unfoldable pub swapIf : Bool → List ℕ → List ℕ
+swapIf false l = l
+swapIf true [] = []
+swapIf true (x ∷ []) = x ∷ []
+swapIf true (x ∷ (y ∷ l)) = y ∷ (x ∷ l)
+
+-- the place in a list of n from which the swapped list has its j-th
+unfoldable pub turned : ℕ → Bool → ℕ → ℕ
+turned n b j = cond b (cond (ltb n 2) j (cond (eqb j 0) 1 (cond (eqb j 1) 0 j))) j
+
+-- one more than the place of the first of n, or of the second; 0 where there is none
+unfoldable pub endAt : ℕ → Bool → ℕ
+endAt n true = cond (ltb n 1) 0 1
+endAt n false = cond (ltb n 2) 0 2
+
+-- the one at k - 1; none where k is 0
+unfoldable pub oneAt : List ℕ → ℕ → List ℕ
+oneAt l zero = []
+oneAt l (suc k) = getD l k 0 ∷ []
+
+-- an order of figure 4: one backward write in front and one behind, flipped or not, and the forward ones swapped or not
+unfoldable pub offer : List ℕ → List ℕ → Bool → Bool → List ℕ
+offer t b flip swap = oneAt b (endAt (length b) (not flip)) ++ (swapIf swap t ++ oneAt b (endAt (length b) flip))
+
+-- the orders with the forward writes swapped, or not: with no backward write there is nothing to flip
+unfoldable pub offers : List ℕ → List ℕ → Bool → List (List ℕ)
+offers t [] swap = offer t [] false swap ∷ []
+offers t (w ∷ b) swap = offer t (w ∷ b) false swap ∷ (offer t (w ∷ b) true swap ∷ [])
+
+-- what the caller shows: writes that are not placed, each once, and no more than there is room for
+pub record Offered (writer t b : List ℕ) (s : State) : Type 0 where
+  pub forth : (w : ℕ) → In w t → Whose writer s w
+  pub inner : (w : ℕ) → In w b → Whose writer s w
+  pub apart : Pairs Unlike (t ++ b)
+  pub room : length t + length b ≤ 1024
+
+-- the first viable of some orders stands in front of what was laid
+pub record Took (C : Cols) (orders : List (List ℕ)) (s r : State) : Type 0 where
+  pub holds : Holds C r
+  pub placed : List ℕ
+  pub lays : placed ++ laid s ≡ laid r
+  pub whole : Says C (λ H. firstViable (map (ops H) orders) (ops H (left s)) ≡ order (ops H placed))
+
+-- THE CONTRACT of trying some orders
+pub data Tries (C : Cols) (orders : List (List ℕ)) (s : State) (r : Tried) : Type 0 where
+  none-viable : r .failed ≡ true → Says C (λ H. firstViable (map (ops H) orders) (ops H (left s)) ≡ none) → Tries C orders s r
+  took : r .failed ≡ false → Took C orders s (r .state) → Tries C orders s r
+
+-- the first viable order of figure 4 stands in front of what was laid
+pub record Chose (C : Cols) (t b : List ℕ) (s r : State) : Type 0 where
+  pub holds : Holds C r
+  pub placed : List ℕ
+  pub lays : placed ++ laid s ≡ laid r
+  pub whole : Says C (λ H. firstViable (listed (ops H t) (ops H b)) (ops H (left s)) ≡ order (ops H placed))
+
+-- THE CONTRACT of the choice among them
+pub data Chosen (C : Cols) (t b : List ℕ) (s : State) (r : Tried) : Type 0 where
+  no-choice : r .failed ≡ true → Says C (λ H. firstViable (listed (ops H t) (ops H b)) (ops H (left s)) ≡ none) → Chosen C t b s r
+  chose : r .failed ≡ false → Chose C t b s (r .state) → Chosen C t b s r

@@ -1,0 +1,252 @@
+// The orders that figure 4 lists for a chunk, tried one by one: the first that is viable.
+use history::Row;
+use placing::State;
+use placing::Tried;
+ghost use mathlib.Core.Path.{_≡_};
+ghost use mathlib.Core.List.{List, [], _∷_, _++_};
+ghost use Prim.Native.Nat.{ℕ, _+_, _≤_, _<_};
+ghost use lib.ListN.{length, getD, take};
+ghost use Rattle.positions.specs.Columns.{cols, Sound};
+ghost use Rattle.placing.specs.States.{Holds};
+ghost use Rattle.choice.specs.Viable.{follows, Turns, Viable};
+ghost use Rattle.choice.specs.Offered.{backward, swapIf, turned, endAt, oneAt, offer, offers, Offered, Tries, Chosen};
+
+// Whether the write that is asked for, if any, is the one at i.
+fn follows(turn: &[u64], i: usize, asked: u64) -> bool
+    requires { ⌜ ((j : ℕ) → j < length (now turn) → getD (now turn) j 0 < 1024) ⌝ }
+    ensures { λ r. ⌜ r ≡ follows (now (turn .entry)) i asked ⌝ }
+{
+    if asked == 0 {
+        return true;
+    }
+    if i < turn.len() {
+        return asked == turn[i] + 1;
+    }
+    false
+}
+
+// Places the writes of the sequence, which stands last first, or fails.
+pub fn viable(
+    start: &[u64],
+    finish: &[u64],
+    writer: &[u64],
+    last: &[u64],
+    prev: &[u64],
+    turn: &[u64],
+    s: State,
+) -> Tried
+    requires { ⌜ Sound (cols (now start) (now finish) (now writer) (now last) (now prev)) ⌝ }
+    requires { ⌜ Holds (cols (now start) (now finish) (now writer) (now last) (now prev)) s ⌝ }
+    requires { ⌜ Turns (now writer) (now turn) s ⌝ }
+    ensures { λ r. ⌜ Viable (cols (now (start .entry)) (now (finish .entry)) (now (writer .entry)) (now (last .entry)) (now (prev .entry))) (now (turn .entry)) s r ⌝ }
+{
+    let n = turn.len();
+    let mut t = s;
+    let mut i: usize = 0;
+    while i < n {
+        let w = turn[i] as usize;
+        i += 1;
+        let tried = placing::step(start, finish, writer, last, prev, t, w);
+        if tried.failed {
+            return tried;
+        }
+        if !follows(turn, i, tried.asked) {
+            return Tried {
+                state: t,
+                asked: tried.asked,
+                failed: true,
+            };
+        }
+        let state = tried.state;
+        t = state;
+    }
+    Tried {
+        state: t,
+        asked: 0,
+        failed: false,
+    }
+}
+
+// The place in a list of n from which the list with its first two swapped has its j-th.
+fn turned(n: usize, swap: bool, j: usize) -> usize
+    ensures { λ r. ⌜ r ≡ turned n swap j ⌝ }
+{
+    if !swap {
+        return j;
+    }
+    if n < 2 {
+        return j;
+    }
+    if j == 0 {
+        return 1;
+    }
+    if j == 1 {
+        return 0;
+    }
+    j
+}
+
+// The list from its last to its first, behind the first m of `out`, where the first two may be swapped; where it ends.
+fn turn(list: &[u64], swap: bool, out: &mut [u64], m: usize) -> usize
+    requires { ⌜ m + length (now list) ≤ length (now out) ⌝ }
+    ensures { λ r. ⌜ (r ≡ m + length (now (list .entry))) × (take r (now (out .exit)) ≡ take m (now (out .entry)) ++ backward (swapIf swap (now (list .entry)))) ⌝ }
+{
+    let n = list.len();
+    let mut i = n;
+    let mut k = m;
+    while i > 0 {
+        let j = i - 1;
+        let at = turned(n, swap, j);
+        out[k] = list[at];
+        k += 1;
+        i = j;
+    }
+    k
+}
+
+// One more than the place of the first of n, or of the second; 0 where there is none.
+fn end_at(n: usize, first: bool) -> usize
+    ensures { λ r. ⌜ r ≡ endAt n first ⌝ }
+{
+    if first {
+        if n < 1 {
+            return 0;
+        }
+        return 1;
+    }
+    if n < 2 {
+        return 0;
+    }
+    2
+}
+
+// The one at k - 1, behind the first m of `out`; none where k is 0; where it ends.
+fn put(list: &[u64], k: usize, out: &mut [u64], m: usize) -> usize
+    requires { ⌜ k ≤ length (now list) ⌝ }
+    requires { ⌜ m + length (oneAt (now list) k) ≤ length (now out) ⌝ }
+    ensures { λ r. ⌜ (r ≡ m + length (oneAt (now (list .entry)) k)) × (take r (now (out .exit)) ≡ take m (now (out .entry)) ++ oneAt (now (list .entry)) k) ⌝ }
+{
+    if k < 1 {
+        return m;
+    }
+    let i = k - 1;
+    out[m] = list[i];
+    m + 1
+}
+
+// An order of figure 4, last first, at the front of `out`; its length.
+fn lay_out(forwards: &[u64], inner: &[u64], flip: bool, swap: bool, out: &mut [u64]) -> usize
+    requires { ⌜ length (now forwards) + length (now inner) ≤ length (now out) ⌝ }
+    ensures { λ r. ⌜ (r ≤ length (now (out .exit))) × (take r (now (out .exit)) ≡ backward (offer (now (forwards .entry)) (now (inner .entry)) flip swap)) ⌝ }
+{
+    let n = inner.len();
+    let behind = end_at(n, flip);
+    let front = end_at(n, !flip);
+    let k = put(inner, behind, out, 0);
+    let m = turn(forwards, swap, out, k);
+    put(inner, front, out, m)
+}
+
+// Tries one order of figure 4.
+fn attempt(
+    start: &[u64],
+    finish: &[u64],
+    writer: &[u64],
+    last: &[u64],
+    prev: &[u64],
+    forwards: &[u64],
+    inner: &[u64],
+    flip: bool,
+    swap: bool,
+    s: State,
+) -> Tried
+    requires { ⌜ Sound (cols (now start) (now finish) (now writer) (now last) (now prev)) ⌝ }
+    requires { ⌜ Holds (cols (now start) (now finish) (now writer) (now last) (now prev)) s ⌝ }
+    requires { ⌜ Offered (now writer) (now forwards) (now inner) s ⌝ }
+    ensures { λ r. ⌜ Tries (cols (now (start .entry)) (now (finish .entry)) (now (writer .entry)) (now (last .entry)) (now (prev .entry))) (offer (now (forwards .entry)) (now (inner .entry)) flip swap ∷ []) s r ⌝ }
+{
+    let mut turn = [0u64; Row::LARGEST_COUNT];
+    let m = lay_out(forwards, inner, flip, swap, &mut turn);
+    viable(start, finish, writer, last, prev, &turn[..m], s)
+}
+
+// Tries the orders with the forward writes swapped, or not.
+fn attempts(
+    start: &[u64],
+    finish: &[u64],
+    writer: &[u64],
+    last: &[u64],
+    prev: &[u64],
+    forwards: &[u64],
+    inner: &[u64],
+    swap: bool,
+    s: State,
+) -> Tried
+    requires { ⌜ Sound (cols (now start) (now finish) (now writer) (now last) (now prev)) ⌝ }
+    requires { ⌜ Holds (cols (now start) (now finish) (now writer) (now last) (now prev)) s ⌝ }
+    requires { ⌜ Offered (now writer) (now forwards) (now inner) s ⌝ }
+    ensures { λ r. ⌜ Tries (cols (now (start .entry)) (now (finish .entry)) (now (writer .entry)) (now (last .entry)) (now (prev .entry))) (offers (now (forwards .entry)) (now (inner .entry)) swap) s r ⌝ }
+{
+    let n = inner.len();
+    let one = attempt(
+        start,
+        finish,
+        writer,
+        last,
+        prev,
+        forwards,
+        inner,
+        false,
+        swap,
+        s,
+    );
+    if n < 1 {
+        return one;
+    }
+    if !one.failed {
+        return one;
+    }
+    attempt(
+        start,
+        finish,
+        writer,
+        last,
+        prev,
+        forwards,
+        inner,
+        true,
+        swap,
+        s,
+    )
+}
+
+// The first viable order of those that figure 4 lists for a chunk.
+pub fn choose(
+    start: &[u64],
+    finish: &[u64],
+    writer: &[u64],
+    last: &[u64],
+    prev: &[u64],
+    forwards: &[u64],
+    inner: &[u64],
+    s: State,
+) -> Tried
+    requires { ⌜ Sound (cols (now start) (now finish) (now writer) (now last) (now prev)) ⌝ }
+    requires { ⌜ Holds (cols (now start) (now finish) (now writer) (now last) (now prev)) s ⌝ }
+    requires { ⌜ Offered (now writer) (now forwards) (now inner) s ⌝ }
+    ensures { λ r. ⌜ Chosen (cols (now (start .entry)) (now (finish .entry)) (now (writer .entry)) (now (last .entry)) (now (prev .entry))) (now (forwards .entry)) (now (inner .entry)) s r ⌝ }
+{
+    let n = inner.len();
+    if 2 < n {
+        return Tried {
+            state: s,
+            asked: 0,
+            failed: true,
+        };
+    }
+    let one = attempts(start, finish, writer, last, prev, forwards, inner, false, s);
+    if !one.failed {
+        return one;
+    }
+    attempts(start, finish, writer, last, prev, forwards, inner, true, s)
+}

@@ -1,0 +1,175 @@
+-- The loop that shortens the doubled finishes, in one pass from the last row up: each read lowers the finish of its write.
+-- Assumes nothing.
+use Prim.Native.Nat.{ℕ, suc, _*_, _-_, _≤_, _<_, min}
+use mathlib.Core.Path.{_≡_, refl, sym, ap, _∙_}
+use mathlib.Core.Logic.{_≢_, _⊎_, inl, inr}
+use mathlib.Core.Bool.{Bool, true, false, cond}
+use mathlib.Core.List.{List, [], _∷_, map, List·Memᴰ as In, List·Memᴰ·head as here}
+use native.Mathlib.Omega.{arith}
+use native.Mathlib.Decide.{ℕ-discrete, decLt}
+use lib.Dec.{ltb}
+use lib.ListN.{length, getD, drop, set, length-set, length-map}
+use lib.Seq.{drop-cons, drop-length, ext-getD, getD-set-same, getD-set-other}
+use borrow.Author.Tests.{eqb-true, eq-eqb, lt-ltb, le-ltb, ltb-true, ltb-false}
+use Rattle.lists.specs.Lists.{put, keep}
+use Rattle.lists.proofs.Tests.{test}
+use Rattle.lists.proofs.Members.{in-keep}
+use Rattle.lists.proofs.Images.{getD-map, getD-in}
+use Rattle.history.specs.declared.Op.{Op}
+use Rattle.history.specs.Table.{opAt, isWrite}
+use Rattle.methods.specs.Extremes.{least}
+use Rattle.methods.specs.Prepared.{sameValue, noWrite, readsOf, finishesBelow, cutting, shortened, newFinish}
+use Rattle.witnesses.proofs.Extremes.{least-begin}
+use Rattle.preparation.proofs.Finish.{new-read}
+use Rattle.columns.specs.Rows.{Fit}
+use Rattle.columns.specs.Writers.{rowOp, Tied}
+use Rattle.columns.specs.Finishes.{lowered, ending}
+
+-- the smallest does not depend on the number that it is begun with
+least-swap : (key : Op → ℕ) (a b : ℕ) (l : List Op) → min b (least key a l) ≡ min a (least key b l)
+unfolding least
+least-swap key a b [] = omega arith
+least-swap key a b (x ∷ l) = omega (arith, least-swap key a b l)
+
+-- one read more, of those that finish below the write, or another
+module _ (x y : Op) where
+  cut-more : (C : List Op) → y .finish < x .finish → shortened x (y ∷ C) ≡ lowered (2 * y .finish) (shortened x C)
+  unfolding shortened least lowered
+  cut-more [] h = rw (lt-ltb (2 * y .finish) (2 * x .finish) (omega arith))
+  cut-more (r ∷ C) h = go (decLt (2 * y .finish) (2 * m - 1))
+    where
+      m : ℕ
+      m = least (λ o. o .finish) (r .finish) C
+
+      both-least : min (r .finish) (least (λ o. o .finish) (y .finish) C) ≡ min (y .finish) m
+      both-least = least-swap (λ o. o .finish) (y .finish) (r .finish) C
+
+      go : Dec (2 * y .finish < 2 * m - 1) → 2 * min (r .finish) (least (λ o. o .finish) (y .finish) C) - 1 ≡ cond (ltb (2 * y .finish) (2 * m - 1)) (2 * y .finish - 1) (2 * m - 1)
+      go (yes l) = rw (lt-ltb (2 * y .finish) (2 * m - 1) l) (omega (arith, both-least))
+      go (no l) = rw (le-ltb (2 * y .finish) (2 * m - 1) (omega arith)) (omega (arith, both-least))
+
+  cut-same : (C : List Op) → ((r : Op) → In r C → r .finish < x .finish) → x .finish ≤ y .finish → shortened x C ≡ lowered (2 * y .finish) (shortened x C)
+  unfolding shortened lowered
+  cut-same [] u h = rw (le-ltb (2 * y .finish) (2 * x .finish) (omega arith))
+  cut-same (r ∷ C) u h =
+      rw (le-ltb (2 * y .finish) (2 * least (λ o. o .finish) (r .finish) C - 1) (omega (arith, u r (here refl), least-begin (λ o. o .finish) (r .finish) C)))
+
+  module _ (L : List Op) where
+    -- what one operation more does to a finish
+    new-mine : isWrite x ≡ true → sameValue x y ≡ true → isWrite y ≡ false → newFinish (y ∷ L) x ≡ lowered (2 * y .finish) (newFinish L x)
+    unfolding newFinish keep put
+    new-mine e f g = rw (e, f, g) (go (finishesBelow x y) refl)
+      where
+        go : (b : Bool) → finishesBelow x y ≡ b → shortened x (put b y (cutting L x)) ≡ lowered (2 * y .finish) (shortened x (cutting L x))
+        go true q = cut-more (cutting L x) (ltb-true (y .finish) (x .finish) q)
+        go false q = cut-same (cutting L x) (λ r m. ltb-true (r .finish) (x .finish) (in-keep (finishesBelow x) (readsOf L x) m .1)) (ltb-false (y .finish) (x .finish) q)
+
+    new-other : sameValue x y ≡ false → newFinish (y ∷ L) x ≡ newFinish L x
+    unfolding newFinish keep put
+    new-other f = rw f
+
+    new-write : isWrite y ≡ true → newFinish (y ∷ L) x ≡ newFinish L x
+    unfolding newFinish keep put
+    new-write g = go (sameValue x y)
+      where
+        go : (b : Bool) → cond (isWrite x) (shortened x (keep (finishesBelow x) (keep noWrite (put b y (keep (sameValue x) L))))) (2 * x .finish) ≡ newFinish L x
+        go true = rw g
+        go false = refl
+
+module _ (t rows : List ℕ) where
+  -- the operation of the row at a position
+  abbrev at : ℕ → Op
+  at i = rowOp t rows i
+
+  -- the reads from j on have lowered the finishes of their writes
+  pub record Cutting (j : ℕ) (out : List ℕ) : Type 0 where
+    pub within : j ≤ length rows
+    pub long : length out ≡ length rows
+    pub cut : (i : ℕ) → i < length rows → getD out i 0 ≡ newFinish (map (opAt t) (drop j rows)) (at i)
+
+  pub cut-none : (out : List ℕ) (j : ℕ) → j ≡ length rows → out ≡ map (λ x. 2 * opAt t x .finish) rows → Cutting j out
+  unfolding newFinish keep shortened
+  cut-none out j e q =
+      record {
+        within = omega arith;
+        long = ap length q ∙ length-map rows _;
+        cut = λ i h. ap (λ (l : List ℕ). getD l i 0) q ∙ getD-map (λ x. 2 * opAt t x .finish) rows i 0 0 h ∙ rw (e, drop-length rows) (go (isWrite (at i)) _);
+      }
+    where
+      go : (b : Bool) (n : ℕ) → n ≡ cond b n n
+      go true n = refl
+      go false n = refl
+
+  pub cut-end : (out : List ℕ) (j : ℕ) → Cutting j out → j ≡ 0 → out ≡ map (ending t rows) rows
+  cut-end out j g e =
+      ext-getD 0 out (map (ending t rows) rows) (g .long ∙ sym (length-map rows _))
+      (λ i h. let k : i < length rows = omega (arith, g .long) in g .cut i k ∙ rw e (sym (getD-map (ending t rows) rows i 0 0 k)))
+
+  module _ (writer : List ℕ) (p : Tied t rows writer) (j : ℕ) (h : 0 < j) (out : List ℕ) (g : Cutting j out) where
+    -- the row of this turn
+    inside : j - 1 < length rows
+    inside = omega (arith, g .within)
+
+    opened : drop (j - 1) rows ≡ getD rows (j - 1) 0 ∷ drop j rows
+    opened = let e : suc (j - 1) ≡ j = omega arith in drop-cons rows (j - 1) 0 inside ∙ rw e
+
+    -- it is a write: nothing changes
+    pub cut-write : getD writer (j - 1) 0 ≡ j - 1 → Cutting (j - 1) out
+    cut-write e =
+        record {
+          within = omega (arith, g .within);
+          long = g .long;
+          cut = λ i k. g .cut i k ∙ rw opened (sym (new-write (at i) (at (j - 1)) _ (rw e at (p .write (j - 1) inside))));
+        }
+
+    module _ (e : getD writer (j - 1) 0 ≢ j - 1) where
+      -- the write of the row
+      abbrev pub w : ℕ
+      w = getD writer (j - 1) 0
+
+      -- it is a read, and its own finish is not cut
+      read : isWrite (at (j - 1)) ≡ false
+      read = go (test (isWrite (at (j - 1))))
+        where
+          go : (isWrite (at (j - 1)) ≡ true) ⊎ (isWrite (at (j - 1)) ≡ false) → isWrite (at (j - 1)) ≡ false
+          go (inl q) = absurd (e (p .one (j - 1) (j - 1) inside inside q refl))
+          go (inr q) = q
+
+      full : getD out (j - 1) 0 ≡ 2 * at (j - 1) .finish
+      full = g .cut (j - 1) inside ∙ new-read (map (opAt t) (drop j rows)) (at (j - 1)) read
+
+      pub cut-positive : Fit t rows → 0 < getD out (j - 1) 0
+      cut-positive s = omega (arith, full, s .spans (getD rows (j - 1) 0) (getD-in rows 0 (j - 1) inside))
+
+      -- the finishes of other rows stay
+      others : (i : ℕ) → i < length rows → i ≢ w → newFinish (map (opAt t) (drop j rows)) (at i) ≡ newFinish (at (j - 1) ∷ map (opAt t) (drop j rows)) (at i)
+      others i k n = go (test (isWrite (at i))) (test (sameValue (at i) (at (j - 1))))
+        where
+          L : List Op
+          L = map (opAt t) (drop j rows)
+
+          go : (isWrite (at i) ≡ true) ⊎ (isWrite (at i) ≡ false) → (sameValue (at i) (at (j - 1)) ≡ true) ⊎ (sameValue (at i) (at (j - 1)) ≡ false) → newFinish L (at i) ≡ newFinish (at (j - 1) ∷ L) (at i)
+          go (inr a) b = new-read L (at i) a ∙ sym (new-read (at (j - 1) ∷ L) (at i) a)
+          go (inl a) (inr b) = sym (new-other (at i) (at (j - 1)) L b)
+          go (inl a) (inl b) = absurd (n (sym (p .one i (j - 1) k inside a (sym (eqb-true _ _ b)))))
+
+      -- it lowers the finish of its write
+      pub cut-read : (v : ℕ) → v ≡ lowered (getD out (j - 1) 0) (getD out w 0) → Cutting (j - 1) (set out w v)
+      cut-read v q =
+          record {
+            within = omega (arith, g .within);
+            long = length-set out w v ∙ g .long;
+            cut = λ i k. rw opened (go i k (ℕ-discrete i w));
+          }
+        where
+          L : List Op
+          L = map (opAt t) (drop j rows)
+
+          go : (i : ℕ) → i < length rows → Dec (i ≡ w) → getD (set out w v) i 0 ≡ newFinish (at (j - 1) ∷ L) (at i)
+          go i k (no n) = getD-set-other out w i v 0 n ∙ g .cut i k ∙ others i k n
+          go i k (yes c) =
+              rw c
+              (getD-set-same out w v 0 (omega (arith, p .inside (j - 1) inside, g .long))
+              ∙ q
+              ∙ rw (full, g .cut w (p .inside (j - 1) inside))
+              (sym (new-mine (at w) (at (j - 1)) L (p .write (j - 1) inside) (eq-eqb _ _ (sym (p .value (j - 1) inside))) read)))

@@ -1,0 +1,63 @@
+-- The columns that the five calls leave are those of the prepared history (`made`).
+use borrow.Author.Needs.{needs}
+use Rattle.columns.proofs.Listed.{listed-fit, listed-tied}
+use Rattle.columns.proofs.Made.{made, tied-by, link-asks}
+use Rattle.columns.proofs.fill.Statement.{statement}
+use Rattle.columns.proofs.fill.Tie as tie
+
+starts-requires : tie.Need-starts-requires
+starts-requires c κs = let p = c .before .before .before .before .before .before .before .before .pre in (p .0 .room-start, listed-fit (p .1 .1))
+
+writers-requires : tie.Need-writers-requires
+writers-requires c κs = let p = c .before .before .before .before .before .before .before .before .before .before .before .before .pre in (p .0 .room-writer, listed-fit (p .1 .1))
+
+finishes-requires : tie.Need-finishes-requires
+finishes-requires c κs =
+    let p = c .before .before .before .before .before .before .before .before .before .before .before .before .before .before .before .before .before .pre in
+    (p .0 .room-finish, (listed-fit (p .1 .1), tied-by (c .before .before .before .before .writers .ensures) (listed-tied (p .1 .1))))
+
+clear-requires : tie.Need-clear-requires
+clear-requires c κs = search needs
+
+link-requires : tie.Need-link-requires
+link-requires c κs =
+    let a = c .before .before .before .before .before .before .before .before .before .before .before .before .before .before .before .before .before .before .before .before .before .before .before .before .before .before .before in
+    link-asks (a .pre .1 .1) _ (a .args .last .now) _ (a .args .prev .now) (c .before .before .before .before .before .before .before .before .before .before .before .before .before .before .writers .ensures) (c .before .before .before .before .before .clear .ensures) (a .pre .0 .room-last) (a .pre .0 .room-prev)
+
+same-length : tie.Need-same-length
+same-length c = search needs
+
+same-length-2 : tie.Need-same-length-2
+same-length-2 c = search needs
+
+same-length-3 : tie.Need-same-length-3
+same-length-3 c = search needs
+
+same-length-4 : tie.Need-same-length-4
+same-length-4 c = search needs
+
+same-length-5 : tie.Need-same-length-5
+same-length-5 c = search needs
+
+returns : tie.Need-returns
+returns c =
+    made _ _ _ _ _ _ _ (c .before .before .before .before .before .before .before .before .before .before .before .before .before .before .before .before .before .before .before .before .before .before .before .starts .ensures)
+    (c .before .before .before .before .before .before .before .before .before .before .before .before .before .before .finishes .ensures)
+    (c .before .before .before .before .before .before .before .before .before .before .before .before .before .before .before .before .before .before .before .writers .ensures)
+    (c .before .before .before .before .link .ensures)
+
+pub fill-spec : {M : Type 1} → statement M
+fill-spec =
+    tie.close
+    (tie.spec
+    starts-requires
+    writers-requires
+    finishes-requires
+    clear-requires
+    link-requires
+    same-length
+    same-length-2
+    same-length-3
+    same-length-4
+    same-length-5
+    returns)

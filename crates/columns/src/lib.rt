@@ -1,0 +1,261 @@
+// From the table and a screened register to the columns of its prepared history, in lent slices with a place for each operation.
+use history::Op;
+use history::Row;
+ghost use mathlib.Core.Path.{_≡_};
+ghost use mathlib.Core.List.{map};
+ghost use Prim.Native.Nat.{ℕ, _+_, _*_, _-_, _≤_, _<_};
+ghost use lib.ListN.{length, getD, take};
+ghost use Rattle.history.specs.Table.{largestCount, rowCount, opAt, bears, history};
+ghost use Rattle.methods.specs.Prepared.{byStart};
+ghost use Rattle.methods.specs.Mark.{rowNumbers, written};
+ghost use Rattle.positions.specs.Columns.{cols, isOwn, Linked};
+ghost use Rattle.columns.specs.Gathered.{Gathered};
+ghost use Rattle.columns.specs.Rows.{Listed, Fit};
+ghost use Rattle.columns.specs.Writers.{writes, seek, writesAt, writerOf, Tied};
+ghost use Rattle.columns.specs.Finishes.{lowered, ending};
+ghost use Rattle.columns.specs.Made.{Room, Made};
+ghost use Rattle.columns.specs.Falls.{fallingOf, Turned};
+
+const LARGEST: u64 = 18446744073709551615;
+
+// The rows of the register in table sequence, at the front of the slice, and the start of each row of the table; their number.
+fn gather(table: &[u64], register: u64, keys: &mut [u64], rows: &mut [u64]) -> usize
+    requires { ⌜ rowCount (now table) ≤ length (now keys) ⌝ }
+    requires { ⌜ rowCount (now table) ≤ length (now rows) ⌝ }
+    ensures { λ r. ⌜ Gathered (bears (now (table .entry)) register) (λ x k. k ≡ opAt (now (table .entry)) x .start) (rowCount (now (table .entry))) (now (rows .entry)) r (now (keys .exit)) (now (rows .exit)) ⌝ }
+{
+    let n = table.len() / Row::COLUMNS;
+    let mut m: usize = 0;
+    let mut i: usize = 0;
+    while i < n {
+        let row = i;
+        keys[row] = Op::at(table, row).start;
+        i += 1;
+        if history::bears(table, register, row) {
+            rows[m] = row as u64;
+            m += 1;
+        }
+    }
+    m
+}
+
+// The rows of the register by rising start, at the front of the slice; their number.
+pub fn rows_by_start(table: &[u64], register: u64, rows: &mut [u64]) -> usize
+    requires { ⌜ rowCount (now table) ≤ largestCount ⌝ }
+    requires { ⌜ rowCount (now table) ≤ length (now rows) ⌝ }
+    ensures { λ r. ⌜ (r ≡ length (history (now (table .entry)) register)) × (now (rows .exit) ≡ written (rowNumbers (byStart (history (now (table .entry)) register))) (now (rows .entry))) ⌝ }
+{
+    let mut keys = [0u64; Row::LARGEST_COUNT];
+    let m = gather(table, register, &mut keys[..], rows);
+    sorting::sort_by(&keys[..], &mut rows[..m]);
+    m
+}
+
+// The doubled starts.
+fn starts(table: &[u64], rows: &[u64], out: &mut [u64])
+    requires { ⌜ length (now out) ≡ length (now rows) ⌝ }
+    requires { ⌜ Fit (now table) (now rows) ⌝ }
+    ensures { λ _. ⌜ now (out .exit) ≡ map (λ x. 2 * opAt (now (table .entry)) x .start) (now (rows .entry)) ⌝ }
+{
+    let mut i: usize = 0;
+    while i < rows.len() {
+        let o = Op::at(table, rows[i] as usize);
+        out[i] = 2 * o.start;
+        i += 1;
+    }
+}
+
+// The doubled finishes.
+fn ends(table: &[u64], rows: &[u64], out: &mut [u64])
+    requires { ⌜ length (now out) ≡ length (now rows) ⌝ }
+    requires { ⌜ Fit (now table) (now rows) ⌝ }
+    ensures { λ _. ⌜ now (out .exit) ≡ map (λ x. 2 * opAt (now (table .entry)) x .finish) (now (rows .entry)) ⌝ }
+{
+    let mut i: usize = 0;
+    while i < rows.len() {
+        let o = Op::at(table, rows[i] as usize);
+        out[i] = 2 * o.finish;
+        i += 1;
+    }
+}
+
+// Whether an operation is a write of the value.
+fn writes(o: Op, value: u64) -> bool
+    ensures { λ r. ⌜ r ≡ writes value o ⌝ }
+{
+    if o.is_write() {
+        return o.value == value;
+    }
+    false
+}
+
+// The position of the first write of the value among the rows; their number where there is none.
+fn writer(table: &[u64], rows: &[u64], value: u64) -> u64
+    requires { ⌜ Fit (now table) (now rows) ⌝ }
+    ensures { λ r. ⌜ r ≡ seek (writesAt (now (table .entry)) value) (now (rows .entry)) ⌝ }
+{
+    let mut i: usize = 0;
+    while i < rows.len() {
+        let o = Op::at(table, rows[i] as usize);
+        if writes(o, value) {
+            return i as u64;
+        }
+        i += 1;
+    }
+    i as u64
+}
+
+// The position of each row's write, its own for a write.
+fn writers(table: &[u64], rows: &[u64], out: &mut [u64])
+    requires { ⌜ length (now out) ≡ length (now rows) ⌝ }
+    requires { ⌜ Fit (now table) (now rows) ⌝ }
+    ensures { λ _. ⌜ now (out .exit) ≡ map (writerOf (now (table .entry)) (now (rows .entry))) (now (rows .entry)) ⌝ }
+{
+    let mut i: usize = 0;
+    while i < rows.len() {
+        let o = Op::at(table, rows[i] as usize);
+        let w = writer(table, rows, o.value);
+        out[i] = w;
+        i += 1;
+    }
+}
+
+// A write's finish after one of its reads: one below the read's, where that is lower.
+fn lowered(end: u64, finish: u64) -> u64
+    requires { ⌜ 0 < end ⌝ }
+    ensures { λ r. ⌜ r ≡ lowered end finish ⌝ }
+{
+    if end < finish { end - 1 } else { finish }
+}
+
+// The doubled finishes; a write that finishes after one of its reads finishes just before it.
+fn finishes(table: &[u64], rows: &[u64], writer: &[u64], out: &mut [u64])
+    requires { ⌜ length (now out) ≡ length (now rows) ⌝ }
+    requires { ⌜ Fit (now table) (now rows) ⌝ }
+    requires { ⌜ Tied (now table) (now rows) (now writer) ⌝ }
+    ensures { λ _. ⌜ now (out .exit) ≡ map (ending (now (table .entry)) (now (rows .entry))) (now (rows .entry)) ⌝ }
+{
+    ends(table, rows, out);
+    let mut j = writer.len();
+    while j > 0 {
+        j -= 1;
+        let at = j;
+        let w = writer[at] as usize;
+        if w != at {
+            let end = out[at];
+            let old = out[w];
+            out[w] = lowered(end, old);
+        }
+    }
+}
+
+// Zeros.
+fn clear(list: &mut [u64])
+    ensures { λ _. ⌜ now (list .exit) ≡ map (λ _. 0) (now (list .entry)) ⌝ }
+{
+    let mut i: usize = 0;
+    while i < list.len() {
+        list[i] = 0;
+        i += 1;
+    }
+}
+
+// The chain of each write's reads, from the last one back, into a slice of zeros and a slice for each position's next.
+fn link(writer: &[u64], last: &mut [u64], prev: &mut [u64])
+    requires { ⌜ ((j : ℕ) → j < length (now writer) → getD (now writer) j 0 < length (now writer)) ⌝ }
+    requires { ⌜ length (now last) ≡ length (now writer) ⌝ }
+    requires { ⌜ ((j : ℕ) → j < length (now writer) → getD (now last) j 0 ≡ 0) ⌝ }
+    requires { ⌜ length (now prev) ≡ length (now writer) ⌝ }
+    ensures { λ _. ⌜ Linked (now (writer .entry)) (now (last .exit)) (now (prev .exit)) ⌝ }
+{
+    let n = writer.len();
+    let mut i: usize = 0;
+    while i < n {
+        let at = i;
+        let v = writer[at] as usize;
+        i += 1;
+        if v != at {
+            let before = last[v];
+            prev[at] = before;
+            last[v] = i as u64;
+        }
+    }
+}
+
+// The columns of a screened register's rows, which stand by rising start.
+pub fn fill(
+    table: &[u64],
+    rows: &[u64],
+    start: &mut [u64],
+    finish: &mut [u64],
+    writer: &mut [u64],
+    last: &mut [u64],
+    prev: &mut [u64],
+)
+    requires { ⌜ Room (now rows) (now start) (now finish) (now writer) (now last) (now prev) ⌝ }
+    requires { ⌜ ((register : ℕ) × Listed (now table) register (now rows)) ⌝ }
+    ensures { λ _. ⌜ Made (now (table .entry)) (now (rows .entry)) (cols (now (start .exit)) (now (finish .exit)) (now (writer .exit)) (now (last .exit)) (now (prev .exit))) ⌝ }
+{
+    starts(table, rows, start);
+    writers(table, rows, writer);
+    finishes(table, rows, writer, finish);
+    clear(last);
+    link(writer, last, prev);
+}
+
+// The writes in the sequence of their positions, at the front of the slice, and for each operation a key that falls as its finish rises;
+// their number.
+fn choose(finish: &[u64], writer: &[u64], keys: &mut [u64], falling: &mut [u64]) -> usize
+    requires { ⌜ length (now finish) ≡ length (now writer) ⌝ }
+    requires { ⌜ length (now writer) ≤ length (now keys) ⌝ }
+    requires { ⌜ length (now writer) ≤ length (now falling) ⌝ }
+    ensures { λ r. ⌜ Gathered (isOwn (now (writer .entry))) (Turned (now (finish .entry))) (length (now (writer .entry))) (now (falling .entry)) r (now (keys .exit)) (now (falling .exit)) ⌝ }
+{
+    let n = writer.len();
+    let mut m: usize = 0;
+    let mut i: usize = 0;
+    while i < n {
+        let at = i;
+        keys[at] = LARGEST - finish[at];
+        i += 1;
+        if writer[at] == at as u64 {
+            falling[m] = at as u64;
+            m += 1;
+        }
+    }
+    m
+}
+
+// The writes by falling finish, at the front of the slice; their number.
+pub fn falls(finish: &[u64], writer: &[u64], falling: &mut [u64]) -> usize
+    requires { ⌜ length (now finish) ≡ length (now writer) ⌝ }
+    requires { ⌜ length (now writer) ≤ largestCount ⌝ }
+    requires { ⌜ length (now writer) ≤ length (now falling) ⌝ }
+    ensures { λ r. ⌜ (r ≡ length (fallingOf (now (finish .entry)) (now (writer .entry)))) × (take r (now (falling .exit)) ≡ fallingOf (now (finish .entry)) (now (writer .entry))) ⌝ }
+{
+    let mut keys = [0u64; Row::LARGEST_COUNT];
+    let m = choose(finish, writer, &mut keys[..], falling);
+    sorting::sort_by(&keys[..], &mut falling[..m]);
+    m
+}
+
+// The row at a position; 0 past the end.
+fn row_at(rows: &[u64], place: u64) -> u64
+    ensures { λ r. ⌜ r ≡ getD (now (rows .entry)) place 0 ⌝ }
+{
+    let i = place as usize;
+    if i < rows.len() { rows[i] } else { 0 }
+}
+
+// The rows at a list of positions.
+pub fn rows_at(rows: &[u64], places: &[u64], out: &mut [u64])
+    requires { ⌜ length (now out) ≡ length (now places) ⌝ }
+    ensures { λ _. ⌜ now (out .exit) ≡ map (λ j. getD (now (rows .entry)) j 0) (now (places .entry)) ⌝ }
+{
+    let mut i: usize = 0;
+    while i < places.len() {
+        let row = row_at(rows, places[i]);
+        out[i] = row;
+        i += 1;
+    }
+}

@@ -1,0 +1,7 @@
+-- The placing step in columns, and what a search answers.
+pub mod Rules
+pub mod States
+pub mod Scanned
+pub mod Owned
+pub mod Stepped
+pub mod Searched

@@ -1,0 +1,48 @@
+-- The state of a search over the columns: a mark for each operation that is placed, and an order that is filled from the back.
+-- Assumes nothing.
+use Prim.Native.Nat.{ℕ, _≤_, _<_}
+use mathlib.Core.Path.{_≡_}
+use mathlib.Core.Bool.{Bool, true, false}
+use mathlib.Core.List.{List}
+use lib.ListN.{length, getD, drop, replicate}
+use lib.Dec.{eqb}
+use Rattle.positions.specs.Places.{upto}
+use Rattle.positions.specs.Columns.{Cols, size, wr}
+use Rattle.placing.specs.declared.State.{State}
+
+-- the operation at j is not placed
+abbrev pub isFree : List ℕ → ℕ → Bool
+isFree p j = eqb (getD p j 0) 0
+
+-- what is not placed, rising
+abbrev pub left : State → List ℕ
+left s = upto (isFree (s .placed)) (s .top)
+
+-- the order so far
+abbrev pub laid : State → List ℕ
+laid s = drop (s .at) (s .order)
+
+-- the state before anything is placed
+unfoldable pub begun : ℕ → State
+begun n = record { placed = replicate 1024 0; order = replicate 1024 0; at = 1024; top = n }
+
+-- a state of n operations with room for those that are left, of which none is from the top on
+pub record Ready (n : ℕ) (s : State) : Type 0 where
+  pub size : n ≤ 1024
+  pub within : s .top ≤ n
+  pub marks : length (s .placed) ≡ 1024
+  pub cells : length (s .order) ≡ 1024
+  pub high : s .at ≤ 1024
+  pub room : length (left s) ≤ s .at
+  pub above : (j : ℕ) → s .top ≤ j → j < n → isFree (s .placed) j ≡ false
+
+-- a state between two steps: ready, and with each operation that is left its write is left
+pub record Holds (C : Cols) (s : State) : Type 0 where
+  pub ready : Ready (size C) s
+  pub closed : (j : ℕ) → j < size C → isFree (s .placed) j ≡ true → isFree (s .placed) (wr C j) ≡ true
+
+-- w is a write that is not placed
+pub record Whose (writer : List ℕ) (s : State) (w : ℕ) : Type 0 where
+  pub inside : w < length writer
+  pub write : getD writer w 0 ≡ w
+  pub free : isFree (s .placed) w ≡ true

@@ -1,0 +1,108 @@
+-- What the zone method's code finds is the definition's answer.
+-- Assumes nothing.
+use Prim.Native.Nat.{ℕ, _-_, _≤_, _<_}
+use mathlib.Core.Path.{_≡_, refl, ap, sym, _∙_}
+use mathlib.Core.Bool.{true, false}
+use mathlib.Core.List.{List, [], _∷_, _++_, flatMap, append-nil, List·Memᴰ as In, List·Memᴰ·head as here, List·Memᴰ·tail as there}
+use native.Mathlib.Omega.{arith}
+use lib.ListN.{length, getD, take, drop, replicate, length-replicate, getD-replicate, drop-of-length-le, length-drop}
+use lib.Seq.{take-all}
+use Rattle.lists.proofs.Images.{map-append, getD-in}
+use Rattle.history.specs.declared.Op.{Op}
+use Rattle.methods.specs.Zones.{order, cluster, isOne, inOrder, zones}
+use Rattle.methods.specs.Mark.{untried}
+use Rattle.positions.specs.Places.{upto, Once}
+use Rattle.positions.specs.Columns.{Cols, size, readOf, Sound, op, ops, Of}
+use Rattle.positions.proofs.Places.{upto-length}
+use Rattle.positions.proofs.Once.{pairs-once}
+use Rattle.placing.specs.declared.State.{State}
+use Rattle.placing.specs.States.{isFree, laid, begun, Ready}
+use Rattle.placing.specs.Searched.{Searched, is-stale, is-fresh}
+use Rattle.zones.specs.Zones.{Zoned, writesAt, byLow}
+use Rattle.zones.specs.Pass.{pass, nowhere, zonesBy}
+use Rattle.zones.specs.Lay.{clusterAt, Whole, Lays}
+use Rattle.zones.proofs.Zone.{cluster-at}
+use Rattle.zones.proofs.ByLow.{by-low-write, by-low-in, by-low-apart, by-low, write-of}
+use Rattle.zones.proofs.Decided.{decided}
+
+-- The state before anything is placed.
+begun-free : (n j : ℕ) → j < 1024 → isFree (begun n .placed) j ≡ true
+unfolding begun
+begun-free n j l = rw (getD-replicate {A = ℕ} 1024 j 0 0 l)
+
+pub begun-laid : (n : ℕ) → laid (begun n) ≡ []
+unfolding begun
+begun-laid n = drop-of-length-le (replicate 1024 0) {i = 1024} (omega (arith, length-replicate {A = ℕ} 1024 0))
+
+pub begun-ready : (n : ℕ) → n ≤ 1024 → Ready n (begun n)
+unfolding begun
+begun-ready n h =
+    record {
+      size = h;
+      within = omega arith;
+      marks = length-replicate {A = ℕ} 1024 0;
+      cells = length-replicate {A = ℕ} 1024 0;
+      high = omega arith;
+      room = omega (arith, upto-length (isFree (replicate 1024 0)) n);
+      above = λ j a b. absurd (omega arith);
+    }
+
+-- writes whose clusters are not placed in a state that has just begun
+pub begun-whole : (writer : List ℕ) (n : ℕ) → length writer ≤ 1024 → (list : List ℕ) → ((w : ℕ) → In w list → (w < length writer) × (getD writer w 0 ≡ w)) →
+    Whole writer list (length list) (begun n)
+begun-whole writer n h list k =
+    record {
+      inside = λ i l. k _ (getD-in list 0 i l) .0;
+      write = λ i l. k _ (getD-in list 0 i l) .1;
+      free = λ i j l m q. begun-free n j (omega arith);
+    }
+
+-- the clusters of a list of writes
+pub clusters-at : {C : Cols} {H : List Op} (o : Of C H) (p : Sound C) (l : List ℕ) → ((w : ℕ) → In w l → In w (writesAt (C .writer))) →
+    flatMap (cluster H) (ops H l) ≡ ops H (flatMap (clusterAt (C .writer)) l)
+unfolding flatMap
+clusters-at o p [] h = refl
+clusters-at {C} {H} o p (w ∷ l) h =
+    let k = write-of o (h w (here refl)) in
+    rw (clusters-at o p l (λ x m. h x (there m)))
+    (ap (λ (c : List Op). c ++ ops H (flatMap (clusterAt (C .writer)) l)) (cluster-at o w (k .0) (k .1))
+    ∙ rw (p .shape .long) (sym (map-append (op H) (w ∷ upto (readOf (C .writer) w) (size C)) (flatMap (clusterAt (C .writer)) l))))
+
+-- a state's order, as an answer holds it
+pub whole-order : (s : State) → length (s .order) ≡ 1024 → take (1024 - s .at) (drop (s .at) (s .order)) ≡ laid s
+whole-order s e = take-all (1024 - s .at) (laid s) (rw (length-drop) (omega arith))
+
+module _ (C : Cols) (p : Sound C) (h : size C ≤ 1024) (late : List ℕ) (g : Zoned C late) (L : List ℕ) (q : L ≡ byLow (C .finish) late (C .writer)) where
+  pub search-stale : (s : State) → pass nowhere (zonesBy (C .finish) late L) ≡ false → (allowance : ℕ) →
+      Searched C allowance (λ H. untried (zones H)) (record { order = s .order; from = 0; to = 0; trials = 0; kind = 0 })
+  unfolding zones
+  search-stale s e allowance =
+      is-stale refl (omega arith) (λ H o. let d : isOne H ≡ false = sym (decided o late g) ∙ (rw q at e) in rw d refl)
+
+  -- what `lay` requires
+  pub lay-asks : (s : State) → s ≡ begun (size C) → Ready (length (C .writer)) s × (Whole (C .writer) L (length L) s × Once L)
+  lay-asks s e =
+      rw e (
+        rw (p .shape .long) (begun-ready (size C) h),
+        (
+          begun-whole (C .writer) (size C) (omega (arith, p .shape .long)) L (λ w m. by-low-write (C .finish) late (C .writer) (rw q at m)),
+          rw q (pairs-once (by-low-apart (C .finish) late (C .writer))),
+        ),
+      )
+
+  pub search-fresh : (s t : State) → s ≡ begun (size C) → pass nowhere (zonesBy (C .finish) late L) ≡ true → Lays (C .writer) L s t → (allowance : ℕ) →
+      Searched C allowance (λ H. untried (zones H)) (record { order = t .order; from = t .at; to = 1024; trials = 0; kind = 1 })
+  unfolding zones inOrder
+  search-fresh s t b e k allowance =
+      is-fresh refl (omega arith) (k .ready .high) (omega arith) (k .ready .cells)
+      (λ H o.
+      let d : isOne H ≡ true = sym (decided o late g) ∙ (rw q at e) in
+      rw d
+      (ap (λ (l : List Op). untried (order l))
+      (ap (flatMap (cluster H)) (sym (by-low o late g))
+      ∙ ap (λ (l : List ℕ). flatMap (cluster H) (ops H l)) (sym q)
+      ∙ clusters-at o p L (λ w m. by-low-in (C .finish) late (C .writer) (rw q at m))
+      ∙ ap (ops H) (sym (whole-order t (k .ready .cells) ∙ all-laid)))))
+    where
+      all-laid : laid t ≡ flatMap (clusterAt (C .writer)) L
+      all-laid = k .order ∙ rw (b, begun-laid (size C)) (append-nil _)

@@ -1,0 +1,94 @@
+use Prim.Native.Nat.{_-_}
+use mathlib.Core.Path.{_∙_, ap}
+use native.Mathlib.Omega.{arith}
+use borrow.Author.Needs.{needs}
+use Rattle.methods.specs.declared.Zone.{Zone}
+use Rattle.methods.specs.Zones.{low}
+use Rattle.zones.proofs.Lows.{Listing, list-none, list-end, list-skip, list-push}
+use Rattle.zones.proofs.low_ends.Statement.{statement}
+use Rattle.zones.proofs.low_ends.Tie as tie
+
+abbrev Inv-loop : tie.InvT-loop
+Inv-loop finish late writer low₀ list₀ n m₀ i₀ low list m i = Listing finish late writer i m low low₀ list list₀
+
+abbrev μ-loop : tie.MeasureT-loop
+μ-loop finish late writer low₀ list₀ n m₀ i₀ low list m i = n - i
+
+loop-holds : tie.Need-loop-holds Inv-loop μ-loop
+loop-holds c = list-none _ _ _ _ _ (c .before .before .before .before .before .pre .1 .1 .0)
+
+mul-v : tie.Need-mul-v Inv-loop μ-loop
+mul-v c = omega arith
+
+shared-slice-read-v : tie.Need-shared-slice-read-v Inv-loop μ-loop
+shared-slice-read-v c = omega arith
+
+add-i : tie.Need-add-i Inv-loop μ-loop
+add-i c = omega arith
+
+zone-of-requires : tie.Need-zone-of-requires Inv-loop μ-loop
+zone-of-requires c κs = (omega (arith, c .before .before .before .before .before .before .before .before .before .pre .0), c .before .before .before .before .before .before .before .before .before .pre .1 .0)
+
+low-requires : tie.Need-low-requires Inv-loop μ-loop
+low-requires c κs = search needs
+
+mul-low : tie.Need-mul-low Inv-loop μ-loop
+mul-low c = omega arith
+
+slice-write-low : tie.Need-slice-write-low Inv-loop μ-loop
+slice-write-low c = omega (arith, c .before .before .before .before .before .loop .inv .ends .long)
+
+mul-list : tie.Need-mul-list Inv-loop μ-loop
+mul-list c = omega (arith, c .before .before .before .before .before .loop .inv .few)
+
+slice-write-list : tie.Need-slice-write-list Inv-loop μ-loop
+slice-write-list c = omega (arith, c .before .before .before .before .before .loop .inv .few, c .before .before .before .before .before .loop .inv .room, c .before .before .before .before .before .before .before .before .before .before .before .pre .1 .1 .1)
+
+add-m : tie.Need-add-m Inv-loop μ-loop
+add-m c = omega (arith, c .before .before .before .before .before .loop .inv .few)
+
+loop-less : tie.Need-loop-less Inv-loop μ-loop
+loop-less c = omega arith
+
+loop-again : tie.Need-loop-again Inv-loop μ-loop
+loop-again c = list-push _ _ _ _ _ _ _ _ _ (c .before .before .before .before .before .loop .inv) (omega arith) (c .before .before .if1 .taken) (omega (arith, c .before .before .before .before .before .loop .inv .few, c .before .before .before .before .before .loop .inv .room, c .before .before .before .before .before .before .before .before .before .before .before .pre .1 .1 .1)) _ (c .low .ensures ∙ ap (λ (z : Zone). low z) (c .before .zone-of .ensures)) _ (c .before .before .if1 .taken)
+
+loop-less-2 : tie.Need-loop-less-2 Inv-loop μ-loop
+loop-less-2 c = omega arith
+
+loop-again-2 : tie.Need-loop-again-2 Inv-loop μ-loop
+loop-again-2 c = list-skip _ _ _ _ _ _ _ _ _ (c .before .before .before .loop .inv) (omega arith) (c .if1 .left)
+
+same-length : tie.Need-same-length Inv-loop μ-loop
+same-length c = c .before .loop .inv .kept
+
+same-length-2 : tie.Need-same-length-2 Inv-loop μ-loop
+same-length-2 c = c .before .loop .inv .room
+
+returns : tie.Need-returns Inv-loop μ-loop
+returns c = list-end _ _ _ _ _ _ _ _ _ (c .before .loop .inv) (omega arith)
+
+pub low-ends-spec : {M : Type 1} → statement M
+low-ends-spec =
+    tie.close
+    (tie.spec
+    Inv-loop
+    μ-loop
+    loop-holds
+    mul-v
+    shared-slice-read-v
+    add-i
+    zone-of-requires
+    low-requires
+    mul-low
+    slice-write-low
+    mul-list
+    slice-write-list
+    add-m
+    loop-less
+    loop-again
+    loop-less-2
+    loop-again-2
+    same-length
+    same-length-2
+    returns)

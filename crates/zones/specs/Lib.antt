@@ -1,0 +1,4 @@
+-- The zones of a prepared history in columns.
+pub mod Zones
+pub mod Pass
+pub mod Lay

@@ -1,0 +1,230 @@
+// The zones of a prepared history in columns, the writes by low end, and the zone method.
+use history::Row;
+use methods::Zone;
+use placing::Search;
+use placing::State;
+ghost use mathlib.Core.Path.{_≡_};
+ghost use Prim.Native.Nat.{ℕ, _≤_, _<_, max};
+ghost use lib.ListN.{length, getD, take};
+ghost use Rattle.methods.specs.Zones.{zones};
+ghost use Rattle.methods.specs.Mark.{untried};
+ghost use Rattle.positions.specs.Places.{Once};
+ghost use Rattle.positions.specs.Columns.{cols, Linked, Sound};
+ghost use Rattle.placing.specs.States.{Ready};
+ghost use Rattle.placing.specs.Searched.{Searched};
+ghost use Rattle.zones.specs.Zones.{lastBy, Ends, Lates, zoneBy, Zoned, Lows, writesAt, byLow, Inside};
+ghost use Rattle.zones.specs.Lay.{Whole, Lays};
+ghost use Rattle.zones.specs.Pass.{meets, newer, pass, nowhere, zonesBy};
+
+fn larger(a: u64, b: u64) -> u64
+    ensures { λ r. ⌜ r ≡ max a b ⌝ }
+{
+    if a <= b { b } else { a }
+}
+
+// The largest start in the cluster of the write w.
+fn last_start(start: &[u64], last: &[u64], w: usize) -> u64
+    requires { ⌜ w < length (now start) ⌝ }
+    requires { ⌜ w < length (now last) ⌝ }
+    requires { ⌜ getD (now last) w 0 ≤ length (now start) ⌝ }
+    ensures { λ r. ⌜ r ≡ lastBy (now (start .entry)) (now (last .entry)) w ⌝ }
+{
+    let own = start[w];
+    let k = last[w] as usize;
+    if k < 1 {
+        return own;
+    }
+    let i = k - 1;
+    larger(own, start[i])
+}
+
+// The largest start of each cluster, at the place of its write.
+pub fn lates(start: &[u64], writer: &[u64], last: &[u64], late: &mut [u64])
+    requires { ⌜ Ends (now start) (now writer) (now last) ⌝ }
+    requires { ⌜ length (now late) ≡ length (now start) ⌝ }
+    ensures { λ _. ⌜ Lates (now (start .entry)) (now (writer .entry)) (now (last .entry)) (length (now (start .entry))) (now (late .exit)) ⌝ }
+{
+    let n = start.len();
+    let mut i: usize = 0;
+    while i < n {
+        let at = i;
+        let v = writer[at];
+        i += 1;
+        if v == at as u64 {
+            late[at] = last_start(start, last, at);
+        }
+    }
+}
+
+// The zone of the write w.
+pub fn zone_of(finish: &[u64], late: &[u64], w: usize) -> Zone
+    requires { ⌜ w < length (now finish) ⌝ }
+    requires { ⌜ length (now late) ≡ length (now finish) ⌝ }
+    ensures { λ r. ⌜ r ≡ zoneBy (now (finish .entry)) (now (late .entry)) w ⌝ }
+{
+    Zone {
+        finish: finish[w],
+        start: late[w],
+    }
+}
+
+// The writes, at the front of the list, and the low end of each one's zone at its place; their number.
+fn low_ends(
+    finish: &[u64],
+    late: &[u64],
+    writer: &[u64],
+    low: &mut [u64],
+    list: &mut [u64],
+) -> usize
+    requires { ⌜ length (now finish) ≡ length (now writer) ⌝ }
+    requires { ⌜ length (now late) ≡ length (now finish) ⌝ }
+    requires { ⌜ length (now writer) ≤ length (now low) ⌝ }
+    requires { ⌜ length (now writer) ≤ length (now list) ⌝ }
+    ensures { λ r. ⌜ (r ≤ length (now (writer .entry))) × (take r (now (list .exit)) ≡ writesAt (now (writer .entry))) × Lows (now (finish .entry)) (now (late .entry)) (now (writer .entry)) (length (now (writer .entry))) (now (low .exit)) ⌝ }
+{
+    let n = writer.len();
+    let mut m: usize = 0;
+    let mut i: usize = 0;
+    while i < n {
+        let at = i;
+        let v = writer[at];
+        i += 1;
+        if v == at as u64 {
+            let z = zone_of(finish, late, at);
+            low[at] = z.low();
+            list[m] = v;
+            m += 1;
+        }
+    }
+    m
+}
+
+// Whether z clashes with the forward zone f, which comes before it by low end.
+fn meets(f: Zone, z: Zone) -> bool
+    ensures { λ r. ⌜ r ≡ meets f z ⌝ }
+{
+    if z.forward() {
+        return z.low() < f.high();
+    }
+    if z.low() <= f.low() {
+        return false;
+    }
+    z.high() < f.high()
+}
+
+// The last forward zone.
+fn newer(f: Zone, z: Zone) -> Zone
+    ensures { λ r. ⌜ r ≡ newer f z ⌝ }
+{
+    if z.forward() { z } else { f }
+}
+
+// Whether no zone clashes with another: one pass over the writes by low end.
+fn one(finish: &[u64], late: &[u64], list: &[u64]) -> bool
+    requires { ⌜ Inside (now finish) (now list) ⌝ }
+    requires { ⌜ length (now late) ≡ length (now finish) ⌝ }
+    ensures { λ r. ⌜ r ≡ pass nowhere (zonesBy (now (finish .entry)) (now (late .entry)) (now (list .entry))) ⌝ }
+{
+    let n = list.len();
+    let mut f = Zone {
+        finish: 0,
+        start: 0,
+    };
+    let mut i: usize = 0;
+    while i < n {
+        let w = list[i] as usize;
+        i += 1;
+        let z = zone_of(finish, late, w);
+        if meets(f, z) {
+            return false;
+        }
+        f = newer(f, z);
+    }
+    true
+}
+
+// The writes by low end, at the front of the list; their number.
+pub fn by_low(finish: &[u64], late: &[u64], writer: &[u64], list: &mut [u64]) -> usize
+    requires { ⌜ length (now finish) ≡ length (now writer) ⌝ }
+    requires { ⌜ length (now late) ≡ length (now finish) ⌝ }
+    requires { ⌜ length (now writer) ≤ 1024 ⌝ }
+    requires { ⌜ length (now writer) ≤ length (now list) ⌝ }
+    ensures { λ r. ⌜ (r ≤ length (now (writer .entry))) × (take r (now (list .exit)) ≡ byLow (now (finish .entry)) (now (late .entry)) (now (writer .entry))) ⌝ }
+{
+    let mut low = [0u64; Row::LARGEST_COUNT];
+    let m = low_ends(finish, late, writer, &mut low, list);
+    sorting::sort_by(&low, &mut list[..m]);
+    m
+}
+
+// The clusters of the listed writes, in their sequence, in front of what is laid.
+pub fn lay(writer: &[u64], last: &[u64], prev: &[u64], list: &[u64], s: State) -> State
+    requires { ⌜ Linked (now writer) (now last) (now prev) ⌝ }
+    requires { ⌜ Ready (length (now writer)) s ⌝ }
+    requires { ⌜ Whole (now writer) (now list) (length (now list)) s ⌝ }
+    requires { ⌜ Once (now list) ⌝ }
+    ensures { λ r. ⌜ Lays (now (writer .entry)) (now (list .entry)) s r ⌝ }
+{
+    let mut t = s;
+    let mut i = list.len();
+    while i > 0 {
+        let at = i - 1;
+        let w = list[at] as usize;
+        i = at;
+        t = placing::own(writer, last, prev, t, w);
+    }
+    t
+}
+
+// The zone method over the writes by low end.
+fn decide(
+    start: &[u64],
+    finish: &[u64],
+    writer: &[u64],
+    last: &[u64],
+    prev: &[u64],
+    late: &[u64],
+    list: &[u64],
+) -> Search
+    requires { ⌜ Sound (cols (now start) (now finish) (now writer) (now last) (now prev)) ⌝ }
+    requires { ⌜ length (now start) ≤ 1024 ⌝ }
+    requires { ⌜ Zoned (cols (now start) (now finish) (now writer) (now last) (now prev)) (now late) ⌝ }
+    requires { ⌜ now list ≡ byLow (now finish) (now late) (now writer) ⌝ }
+    ensures { λ r. ⌜ ((allowance : ℕ) → Searched (cols (now (start .entry)) (now (finish .entry)) (now (writer .entry)) (now (last .entry)) (now (prev .entry))) allowance (λ H. untried (zones H)) r) ⌝ }
+{
+    let n = start.len();
+    let s = placing::begin(n);
+    if one(finish, late, list) {
+        let t = lay(writer, last, prev, list, s);
+        let order = t.order;
+        return Search {
+            order,
+            from: t.at,
+            to: Row::LARGEST_COUNT,
+            trials: 0,
+            kind: Search::FRESH,
+        };
+    }
+    let order = s.order;
+    Search {
+        order,
+        from: 0,
+        to: 0,
+        trials: 0,
+        kind: Search::STALE,
+    }
+}
+
+// The zone method: whether the history is 1-atomic, with an order.
+pub fn search(start: &[u64], finish: &[u64], writer: &[u64], last: &[u64], prev: &[u64]) -> Search
+    requires { ⌜ Sound (cols (now start) (now finish) (now writer) (now last) (now prev)) ⌝ }
+    requires { ⌜ length (now start) ≤ 1024 ⌝ }
+    ensures { λ r. ⌜ ((allowance : ℕ) → Searched (cols (now (start .entry)) (now (finish .entry)) (now (writer .entry)) (now (last .entry)) (now (prev .entry))) allowance (λ H. untried (zones H)) r) ⌝ }
+{
+    let n = start.len();
+    let mut late = [0u64; Row::LARGEST_COUNT];
+    lates(start, writer, last, &mut late[..n]);
+    let mut list = [0u64; Row::LARGEST_COUNT];
+    let m = by_low(finish, &late[..n], writer, &mut list);
+    decide(start, finish, writer, last, prev, &late[..n], &list[..m])
+}
