@@ -1,13 +1,12 @@
 -- The state before anything is placed: it holds, the whole history is left, and nothing is laid.
 -- Assumes nothing.
 use Prim.Native.Nat.{ℕ, _≤_, _<_}
-use mathlib.Core.Path.{_≡_, refl, ap, sym, _∙_}
+use mathlib.Core.Path.{_≡_, ap, _∙_}
 use mathlib.Core.Bool.{true}
-use mathlib.Core.List.{List, []}
+use mathlib.Core.List.{[]}
 use native.Mathlib.Omega.{arith}
 use lib.ListN.{length, take, replicate, length-replicate, getD-replicate, drop-of-length-le}
 use lib.Seq.{take-all}
-use Rattle.history.specs.declared.Op.{Op}
 use Rattle.positions.specs.Columns.{Cols, size, wr, Sound, ops, Says}
 use Rattle.positions.proofs.Places.{upto-length}
 use Rattle.positions.proofs.Ops.{ops-all}

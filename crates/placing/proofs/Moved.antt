@@ -9,7 +9,6 @@ use mathlib.Core.List.{List, [], _∷_, _++_}
 use native.Mathlib.Omega.{arith}
 use lib.ListN.{length, getD, drop, set, length-append, length-set}
 use lib.Seq.{drop-cons, drop-set-lt, getD-set-same, getD-set-other, append-snoc}
-use lib.Dec.{eqb}
 use Rattle.lists.proofs.Tests.{both}
 use Rattle.positions.specs.Places.{upto}
 use Rattle.positions.proofs.Places.{below, upto-more, upto-stop}

@@ -7,14 +7,14 @@ use mathlib.Core.Logic.{_⊎_, inl, inr, _≢_}
 use mathlib.Core.List.{List, []}
 use native.Mathlib.Omega.{arith}
 use lib.ListN.{length, getD, set}
-use lib.Dec.{ltb, eqb}
+use lib.Dec.{eqb}
 use borrow.Author.Tests.{ltb-true, lt-ltb, le-ltb, eqb-true, eqb-false, eq-eqb, ne-eqb, not-true, not-false}
 use Rattle.lists.proofs.Tests.{both}
 use Rattle.positions.specs.Places.{upto, and}
 use Rattle.positions.specs.Columns.{Shaped}
 use Rattle.positions.proofs.Places.{below, upto-empty, upto-parts}
 use Rattle.placing.specs.Rules.{clash, ask}
-use Rattle.placing.specs.States.{isFree, laid, Ready}
+use Rattle.placing.specs.States.{isFree, Ready}
 use Rattle.placing.specs.Scanned.{late, Late, Met, Asks, Kinds, Asking, Broken, a-write, two, Passed, Scanned, passed}
 use Rattle.placing.specs.declared.State.{State}
 use Rattle.placing.proofs.Moved.{no-cond, Moved, moved-none, moved-down, moved-push}

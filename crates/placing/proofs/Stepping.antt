@@ -4,11 +4,11 @@ use Prim.Native.Nat.{ℕ, _+_, _≤_, _<_}
 use mathlib.Core.Path.{_≡_, refl, ap, sym, _∙_}
 use mathlib.Core.Bool.{Bool, true, false, not, cond}
 use mathlib.Core.Logic.{_⊎_, inl, inr, _≢_}
-use mathlib.Core.List.{List, [], _∷_, _++_, append-assoc}
+use mathlib.Core.List.{List, _∷_, _++_, append-assoc}
 use native.Mathlib.Omega.{arith}
 use lib.ListN.{length, getD, length-append, length-drop}
 use lib.Dec.{ltb, eqb}
-use borrow.Author.Tests.{ltb-true, lt-ltb, le-ltb, eqb-false, eq-eqb, ne-eqb, not-true}
+use borrow.Author.Tests.{ltb-true, lt-ltb, eqb-false, eq-eqb, ne-eqb, not-true}
 use Rattle.lists.specs.Lists.{keep}
 use Rattle.lists.proofs.Tests.{both}
 use Rattle.lists.proofs.Images.{map-append}
@@ -16,14 +16,14 @@ use Rattle.history.specs.declared.Op.{Op}
 use Rattle.methods.specs.Prepared.{noWrite, sameValue}
 use Rattle.methods.specs.Place.{otherValue, startsAfter, startsBy, later, rest, reads, segment}
 use Rattle.positions.specs.Places.{upto, and}
-use Rattle.positions.specs.Columns.{Cols, size, wr, isOwn, isRead, mine, Sound, op, ops, Of, Says}
+use Rattle.positions.specs.Columns.{Cols, size, wr, isRead, mine, Sound, op, ops, Of}
 use Rattle.positions.proofs.Places.{below, upto-ext, upto-stop, upto-parts, upto-some}
 use Rattle.positions.proofs.Ops.{keep-ops}
 use Rattle.positions.proofs.Columns.{size-is, start-is, finish-is, own-is, same-is}
 use Rattle.placing.specs.States.{isFree, left, laid, Ready, Holds, Whose}
 use Rattle.placing.specs.Scanned.{late, Asking, Passed, Scanned, broke, passed}
 use Rattle.placing.specs.Owned.{Mine, Owned}
-use Rattle.placing.specs.Stepped.{ending, Told, Went, Stepped, fails, goes}
+use Rattle.placing.specs.Stepped.{ending, Stepped, fails, goes}
 use Rattle.placing.specs.declared.State.{State}
 use Rattle.placing.specs.declared.Tried.{Tried}
 use Rattle.placing.proofs.Moved.{no-cond}

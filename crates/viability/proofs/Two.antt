@@ -1,12 +1,15 @@
 -- FZF decides 2-atomicity (document 01, "FZF"): its order is valid and 2-atomic, and where it has none there is none.
 -- Assumes nothing.
-use Prim.Native.Nat.{ℕ}
+use Prim.Native.Nat.{ℕ, _≤_}
 use mathlib.Core.Path.{_≡_, refl, sym, ap, _∙_}
 use mathlib.Core.Logic.{_⊎_, inl, inr, ⊎-elim}
-use mathlib.Core.List.{List, [], _∷_, flatMap, List·Memᴰ as In, List·Memᴰ·head as here, List·Memᴰ·tail as there, Memᴰ·append-left, Memᴰ·cast, List·Memᴰ·eq-of-singleton as alone}
+use mathlib.Core.List.{List, [], _∷_, flatMap, List·Memᴰ as In, List·Memᴰ·head as here, List·Memᴰ·tail as there, Memᴰ·append-left, Memᴰ·cast, List·Memᴰ·eq-of-singleton as alone, append-assoc, _++_}
 use native.Mathlib.Omega.{arith}
+use lib.ListN.{length}
 use Rattle.lists.specs.Pairs.{Pairs, nil, cons}
-use Rattle.lists.proofs.Pairs.{pairs-one, pairs-keep, pairs-append, pairs-map}
+use Rattle.lists.proofs.Maps.{in-flat}
+use Rattle.lists.proofs.Pairs.{pairs-one, pairs-keep, pairs-append, pairs-front, pairs-map}
+use Rattle.lists.proofs.Cover.{no-longer-by}
 use Rattle.history.specs.declared.Op.{Op}
 use Rattle.methods.specs.Zones.{Decision, none, order, cluster, firstFinish, lastStart}
 use Rattle.methods.specs.Fzf.{Run, forwards, Item, chunk, dangling, allRuns, spans, inner, listed, back, writesOf, part, made, items, putBefore, join, fzf}
@@ -17,7 +20,7 @@ use Rattle.witnesses.specs.Witness.{Witness}
 use Rattle.witnesses.proofs.Parts.{witness-sub}
 use Rattle.witnesses.proofs.Positions.{orders-witness}
 use Rattle.witnesses.proofs.Near.{near-two}
-use Rattle.witnesses.proofs.Join.{joins}
+use Rattle.witnesses.proofs.Join.{join-pairs, joins}
 use Rattle.chunks.specs.Chunk.{Rising, Chunk, Placing}
 use Rattle.chunks.proofs.Around.{ordered}
 use Rattle.clusters.proofs.Clusters.{Differ, in-only, only-in, prepared-only, not-last, home, follows, cluster-orders, before-or-between}
@@ -39,8 +42,13 @@ module _ (H : List Op) where
   taken none = []
   taken (order o) = o
 
-  orderOf : Item → List Op
+  -- an item's order, where it has one
+  pub orderOf : Item → List Op
   orderOf i = taken (made H i)
+
+  pub made-order : (i : Item) (o : List Op) → made H i ≡ order o → orderOf i ≡ o
+  unfolding orderOf taken
+  made-order i o e = rw e
 
   data Joined? (l : List Item) : Decision → Type 0 where
     not-joined : (i : Item) → In i l → made H i ≡ none → Joined? l none
@@ -62,6 +70,24 @@ module _ (H : List Op) where
       go (order o) q (order p) (joined h) =
           let k : Joined? (i ∷ l) (order (flatMap orderOf (i ∷ l))) = joined (each q h) in
           rw q at k
+
+  -- the first items are made: what is joined is theirs, then that of the others
+  pub join-done : (a b : List Item) → ((i : Item) → In i a → made H i ≡ order (orderOf i)) → join H (a ++ b) ≡ putBefore (flatMap orderOf a) (join H b)
+  unfolding join putBefore flatMap
+  join-done [] b h = before-nil (join H b)
+    where
+      before-nil : (d : Decision) → d ≡ putBefore [] d
+      before-nil none = refl
+      before-nil (order o) = refl
+  join-done (i ∷ a) b h = go (made H i) (h i (here refl)) (join-done a b (λ j m. h j (there m)))
+    where
+      twice : (x y : List Op) (d : Decision) → putBefore x (putBefore y d) ≡ putBefore (x ++ y) d
+      twice x y none = refl
+      twice x y (order o) = ap order (sym (append-assoc x y o))
+
+      go : (d : Decision) → d ≡ order (orderOf i) → join H (a ++ b) ≡ putBefore (flatMap orderOf a) (join H b) →
+          _≡_ {A = Decision} (elim d as (λ d. Decision) [ none ↦ none | order o ↦ putBefore o (join H (a ++ b)) ]) (putBefore (orderOf i ++ flatMap orderOf a) (join H b))
+      go d e ih = rw e (ap (putBefore (orderOf i)) ih ∙ twice (orderOf i) (flatMap orderOf a) (join H b))
 
 module _ {H : List Op} (g : Prepared H) where
   -- The writes of a chunk, each once.
@@ -155,6 +181,24 @@ module _ {H : List Op} (g : Prepared H) where
       let (w, k, e) = home g x m in
       let (i, n, j) = in-item g w k in
       (i, n, only-in (writesOf H i) H m j e))
+
+  -- what the first items have is no more than the history has
+  pub done-short : (a b : List Item) → items H ≡ a ++ b → ((i : Item) → In i a → made H i ≡ order (orderOf H i)) → length (flatMap (orderOf H) a) ≤ length H
+  done-short a b e h =
+      no-longer-by (λ x. x .row)
+      (pairs-map
+      (join-pairs (part H) (orderOf H)
+      (pairs-map (pairs-front a b (rw e at (turns g))) (λ i j m n t. follows g (writesOf H i) (writesOf H j) (item-writes g i (at i m)) (item-writes g j (at j n)) t))
+      orders)
+      (λ x y m n r. r .apart))
+      H
+      (λ x m. let (i, k, l) = in-flat (orderOf H) a m in in-only (writesOf H i) H (orders i k .from x l) .0)
+    where
+      at : (i : Item) → In i a → Item? H i
+      at i m = item? H i (rw e (Memᴰ·append-left b m))
+
+      orders : (i : Item) → In i a → Orders 2 (part H i) (orderOf H i)
+      orders i m = made-orders i (at i m) (orderOf H i) (h i m)
 
   -- FZF'S THEOREM
   pub fzf-decides : Decides 2 H (fzf H)

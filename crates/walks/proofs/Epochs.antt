@@ -104,7 +104,7 @@ module _ (w : Op) (H : List Op) where
       go true (each h) = pick? q o late differs (λ x m. own h x (cov x m)) _ from into
       go false (some-not b m n) = is-bad (two-values q o b late (sub b (there m) .0) differs (sub b (there m) .1) (eqb-false _ _ n))
 
-  step? : Step? w H (step w H)
+  pub step? : Step? w H (step w H)
   unfolding step
   step? = go (all noWrite (later w H)) (all? noWrite (later w H))
     where

@@ -29,7 +29,8 @@ module _ {A : Type 0} (ops ord : A → List Op) where
   Follows a b = (x y : Op) → In x (ops a) → In y (ops b) → Before x y
 
   module _ {k : ℕ} where
-    join-pairs : {l : List A} → Pairs Follows l → ((a : A) → In a l → Orders k (ops a) (ord a)) → Pairs Before (flatMap ord l)
+    -- the joined orders keep precedence, and have no row twice
+    pub join-pairs : {l : List A} → Pairs Follows l → ((a : A) → In a l → Orders k (ops a) (ord a)) → Pairs Before (flatMap ord l)
     unfolding flatMap
     join-pairs nil h = nil
     join-pairs (cons {x = a} {l = l} u t) h =

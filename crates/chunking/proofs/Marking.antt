@@ -1,0 +1,86 @@
+-- The loop that marks the listed places.
+-- Assumes nothing.
+use Prim.Native.Nat.{ℕ, _+_, _≤_, _<_}
+use mathlib.Core.Path.{_≡_, refl, ap, sym, _∙_}
+use mathlib.Core.Bool.{Bool, true, false, not, cond}
+use mathlib.Core.Logic.{_⊎_, inl, inr}
+use mathlib.Core.List.{List, [], _∷_, _++_}
+use native.Mathlib.Omega.{arith}
+use native.Mathlib.Numerals.{add-one}
+use lib.ListN.{length, getD, take, set, length-set}
+use lib.Seq.{take-all, take-suc, getD-set-same, getD-set-other}
+use lib.Dec.{eqb}
+use borrow.Author.Tests.{eqb-true, eqb-false}
+use Rattle.lists.specs.Lists.{all}
+use Rattle.lists.proofs.Tests.{test}
+use Rattle.positions.specs.Places.{and}
+use Rattle.placing.specs.States.{isFree}
+use Rattle.chunking.specs.Freed.{unlisted, Marked}
+
+-- what is listed in one of two lists
+pub all-append : {A : Type 0} (p : A → Bool) (a b : List A) → all p (a ++ b) ≡ cond (all p a) (all p b) false
+unfolding all
+all-append p [] b = refl
+all-append p (x ∷ a) b = go (p x) (all-append p a b)
+  where
+    go : (t : Bool) → all p (a ++ b) ≡ cond (all p a) (all p b) false → cond t (all p (a ++ b)) false ≡ cond (cond t (all p a) false) (all p b) false
+    go true e = e
+    go false e = refl
+
+pub yes : (b : Bool) → cond b true false ≡ b
+yes true = refl
+yes false = refl
+
+pub no : (b : Bool) → cond b false false ≡ false
+no true = refl
+no false = refl
+
+pub all-one : {A : Type 0} (p : A → Bool) (x : A) → all p (x ∷ []) ≡ p x
+unfolding all
+all-one p x = yes (p x)
+
+-- three tests, one after the other
+pub assoc : (a b c : Bool) → cond a (cond b c false) false ≡ cond (cond a b false) c false
+assoc true b c = refl
+assoc false b c = refl
+
+-- the first i of the list are marked
+pub record Marking (list : List ℕ) (i : ℕ) (marks marks₀ : List ℕ) : Type 0 where
+  pub within : i ≤ length list
+  pub long : length marks ≡ length marks₀
+  pub marked : (j : ℕ) → j < length marks₀ → isFree marks j ≡ and (isFree marks₀) (unlisted (take i list)) j
+
+module _ (list marks₀ : List ℕ) where
+  pub mark-none : Marking list 0 marks₀ marks₀
+  unfolding all
+  mark-none = record { within = omega arith; long = refl; marked = λ j l. sym (yes (isFree marks₀ j)) }
+
+  module _ (i : ℕ) (marks : List ℕ) (g : Marking list i marks marks₀) where
+    pub mark-end : length list ≤ i → Marked list marks₀ marks
+    mark-end h j l = g .marked j l ∙ ap (λ (k : List ℕ). and (isFree marks₀) (unlisted k) j) (take-all i list h)
+
+    pub mark-on : i < length list → getD list i 0 < length marks → Marking list (i + 1) (set marks (getD list i 0) 1) marks₀
+    mark-on h b =
+        record {
+          within = omega arith;
+          long = length-set marks (getD list i 0) 1 ∙ g .long;
+          marked = λ j l. here-on j l ∙ sym (ap (λ (k : List ℕ). and (isFree marks₀) (unlisted k) j) next ∙ more j ∙ assoc (isFree marks₀ j) (unlisted (take i list) j) (not (eqb j (getD list i 0))));
+        }
+      where
+        next : take (i + 1) list ≡ take i list ++ (getD list i 0 ∷ [])
+        next = rw (add-one i) (take-suc list i 0 h)
+
+        more : (j : ℕ) → and (isFree marks₀) (unlisted (take i list ++ (getD list i 0 ∷ []))) j ≡ cond (isFree marks₀ j) (cond (unlisted (take i list) j) (not (eqb j (getD list i 0))) false) false
+        more j =
+            ap (λ (t : Bool). cond (isFree marks₀ j) t false)
+            (all-append (λ w. not (eqb j w)) (take i list) (getD list i 0 ∷ []) ∙ ap (λ (t : Bool). cond (unlisted (take i list) j) t false) (all-one (λ w. not (eqb j w)) (getD list i 0)))
+
+        here-on : (j : ℕ) → j < length marks₀ → isFree (set marks (getD list i 0) 1) j ≡ cond (cond (isFree marks₀ j) (unlisted (take i list) j) false) (not (eqb j (getD list i 0))) false
+        here-on j l = go (test (eqb j (getD list i 0)))
+          where
+            go : (eqb j (getD list i 0) ≡ true) ⊎ (eqb j (getD list i 0) ≡ false)
+                → isFree (set marks (getD list i 0) 1) j ≡ cond (cond (isFree marks₀ j) (unlisted (take i list) j) false) (not (eqb j (getD list i 0))) false
+            go (inl e) =
+                let q : j ≡ getD list i 0 = eqb-true j (getD list i 0) e in
+                rw (e, ap (λ (k : ℕ). isFree (set marks (getD list i 0) 1) k) q, getD-set-same marks (getD list i 0) 1 0) (sym (no (cond (isFree marks₀ j) (unlisted (take i list) j) false)))
+            go (inr e) = rw (e, getD-set-other marks (getD list i 0) j 1 0 (eqb-false _ _ e)) (g .marked j l ∙ sym (yes (cond (isFree marks₀ j) (unlisted (take i list) j) false)))

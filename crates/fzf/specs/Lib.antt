@@ -1,0 +1,4 @@
+-- FZF over a prepared history in columns.
+pub mod Merge
+pub mod Next
+pub mod Items

@@ -1,0 +1,268 @@
+// FZF over a prepared history in columns: chunks and dangling clusters, each with its order, joined by low end.
+use history::Row;
+use placing::Search;
+use placing::State;
+use placing::Tried;
+ghost use mathlib.Core.Path.{_≡_};
+ghost use mathlib.Core.List.{_++_};
+ghost use Prim.Native.Nat.{ℕ, _+_, _≤_, _<_};
+ghost use lib.ListN.{length, take};
+ghost use Rattle.methods.specs.Fzf.{fzf};
+ghost use Rattle.methods.specs.Mark.{untried};
+ghost use Rattle.positions.specs.Columns.{cols, Sound};
+ghost use Rattle.placing.specs.Searched.{Searched};
+ghost use Rattle.zones.specs.Zones.{Zoned, Inside, byLow};
+ghost use Rattle.fzf.specs.Items.{Known, forths, backs, Cut, Chunked, Nexts};
+ghost use Rattle.fzf.specs.Next.{chunkFirst, overAt, Waiting, endedAt};
+
+// What the next item gives: its order, in the state, or that it has none; and where the ones behind it begin.
+pub struct Next {
+    pub state: State,
+    pub failed: bool,
+    pub forward: usize,
+    pub backward: usize,
+}
+
+// The order of a chunk, from the writes of its run and all the backward ones.
+fn chunk(
+    start: &[u64],
+    finish: &[u64],
+    writer: &[u64],
+    last: &[u64],
+    prev: &[u64],
+    late: &[u64],
+    run: &[u64],
+    backwards: &[u64],
+    top: u64,
+) -> Tried
+    requires { ⌜ Sound (cols (now start) (now finish) (now writer) (now last) (now prev)) ⌝ }
+    requires { ⌜ length (now start) ≤ 1024 ⌝ }
+    requires { ⌜ Zoned (cols (now start) (now finish) (now writer) (now last) (now prev)) (now late) ⌝ }
+    requires { ⌜ Cut (cols (now start) (now finish) (now writer) (now last) (now prev)) (now late) (now run) ⌝ }
+    requires { ⌜ now backwards ≡ backs (cols (now start) (now finish) (now writer) (now last) (now prev)) (now late) ⌝ }
+    ensures { λ r. ⌜ Chunked (cols (now (start .entry)) (now (finish .entry)) (now (writer .entry)) (now (last .entry)) (now (prev .entry))) (now (run .entry)) top r ⌝ }
+{
+    let zone = zones::zone_of(finish, late, run[0] as usize);
+    let bottom = zone.low();
+    let mut list = [0u64; Row::LARGEST_COUNT];
+    let k = chunking::inner(finish, late, backwards, bottom, top, &mut list);
+    let s = chunking::free(writer, run, &list[..k]);
+    choice::choose(start, finish, writer, last, prev, run, &list[..k], s)
+}
+
+// Whether a chunk comes next: there is one, and no dangling cluster has the lower low end.
+fn chunk_first(
+    finish: &[u64],
+    late: &[u64],
+    forwards: &[u64],
+    backwards: &[u64],
+    a: usize,
+    j: usize,
+) -> bool
+    requires { ⌜ Inside (now finish) (now forwards) ⌝ }
+    requires { ⌜ Inside (now finish) (now backwards) ⌝ }
+    requires { ⌜ length (now late) ≡ length (now finish) ⌝ }
+    ensures { λ r. ⌜ r ≡ chunkFirst (now (finish .entry)) (now (late .entry)) (now (forwards .entry)) (now (backwards .entry)) a j ⌝ }
+{
+    if forwards.len() <= a {
+        return false;
+    }
+    if backwards.len() <= j {
+        return true;
+    }
+    let chunk = zones::zone_of(finish, late, forwards[a] as usize);
+    let cluster = zones::zone_of(finish, late, backwards[j] as usize);
+    chunk.low() <= cluster.low()
+}
+
+// Whether nothing is left: f forward writes and b backward ones, of which the first a and j are done.
+fn over(f: usize, b: usize, a: usize, j: usize) -> bool
+    ensures { λ r. ⌜ r ≡ overAt f b a j ⌝ }
+{
+    if f <= a {
+        return b <= j;
+    }
+    false
+}
+
+// Puts a part behind the first m of the order; where it ends.
+fn append(part: &[u64], order: &mut [u64], m: usize) -> usize
+    requires { ⌜ m + length (now part) ≤ length (now order) ⌝ }
+    ensures { λ r. ⌜ (r ≡ m + length (now (part .entry))) × (take r (now (order .exit)) ≡ take m (now (order .entry)) ++ now (part .entry)) ⌝ }
+{
+    let n = part.len();
+    let mut i: usize = 0;
+    let mut k = m;
+    while i < n {
+        order[k] = part[i];
+        i += 1;
+        k += 1;
+    }
+    k
+}
+
+// The next item with its order: the chunk that begins at a, or the dangling cluster at j.
+fn item(
+    start: &[u64],
+    finish: &[u64],
+    writer: &[u64],
+    last: &[u64],
+    prev: &[u64],
+    late: &[u64],
+    forwards: &[u64],
+    backwards: &[u64],
+    a: usize,
+    j: usize,
+) -> Next
+    requires { ⌜ Sound (cols (now start) (now finish) (now writer) (now last) (now prev)) ⌝ }
+    requires { ⌜ length (now start) ≤ 1024 ⌝ }
+    requires { ⌜ Zoned (cols (now start) (now finish) (now writer) (now last) (now prev)) (now late) ⌝ }
+    requires { ⌜ now forwards ≡ forths (cols (now start) (now finish) (now writer) (now last) (now prev)) (now late) ⌝ }
+    requires { ⌜ now backwards ≡ backs (cols (now start) (now finish) (now writer) (now last) (now prev)) (now late) ⌝ }
+    requires { ⌜ Waiting (now finish) (now late) (now forwards) (now backwards) a j ⌝ }
+    ensures { λ r. ⌜ Nexts (cols (now (start .entry)) (now (finish .entry)) (now (writer .entry)) (now (last .entry)) (now (prev .entry))) (now (forwards .entry)) (now (backwards .entry)) a j r ⌝ }
+{
+    if chunk_first(finish, late, forwards, backwards, a, j) {
+        let span = chunking::run(finish, late, forwards, a);
+        let end = span.end;
+        let top = span.top;
+        let tried = chunk(
+            start,
+            finish,
+            writer,
+            last,
+            prev,
+            late,
+            &forwards[a..end],
+            backwards,
+            top,
+        );
+        let state = tried.state;
+        return Next {
+            state,
+            failed: tried.failed,
+            forward: end,
+            backward: j,
+        };
+    }
+    let state = chunking::cluster(writer, last, prev, backwards[j] as usize);
+    Next {
+        state,
+        failed: false,
+        forward: a,
+        backward: j + 1,
+    }
+}
+
+// A search that ends here: the first m of the order, or none.
+fn ended(order: [u64; Row::LARGEST_COUNT], m: usize, kind: u64) -> Search
+    ensures { λ r. ⌜ r ≡ endedAt order m kind ⌝ }
+{
+    Search {
+        order,
+        from: 0,
+        to: m,
+        trials: 0,
+        kind,
+    }
+}
+
+// Joins the items by low end.
+fn join(
+    start: &[u64],
+    finish: &[u64],
+    writer: &[u64],
+    last: &[u64],
+    prev: &[u64],
+    late: &[u64],
+    forwards: &[u64],
+    backwards: &[u64],
+) -> Search
+    requires { ⌜ Sound (cols (now start) (now finish) (now writer) (now last) (now prev)) ⌝ }
+    requires { ⌜ length (now start) ≤ 1024 ⌝ }
+    requires { ⌜ Known (cols (now start) (now finish) (now writer) (now last) (now prev)) ⌝ }
+    requires { ⌜ Zoned (cols (now start) (now finish) (now writer) (now last) (now prev)) (now late) ⌝ }
+    requires { ⌜ now forwards ≡ forths (cols (now start) (now finish) (now writer) (now last) (now prev)) (now late) ⌝ }
+    requires { ⌜ now backwards ≡ backs (cols (now start) (now finish) (now writer) (now last) (now prev)) (now late) ⌝ }
+    ensures { λ r. ⌜ ((allowance : ℕ) → Searched (cols (now (start .entry)) (now (finish .entry)) (now (writer .entry)) (now (last .entry)) (now (prev .entry))) allowance (λ H. untried (fzf H)) r) ⌝ }
+{
+    let mut order = [0u64; Row::LARGEST_COUNT];
+    let mut m: usize = 0;
+    let mut a: usize = 0;
+    let mut j: usize = 0;
+    loop {
+        j = chunking::skip(finish, late, forwards, backwards, j);
+        if over(forwards.len(), backwards.len(), a, j) {
+            return ended(order, m, Search::FRESH);
+        }
+        let next = item(
+            start,
+            finish,
+            writer,
+            last,
+            prev,
+            late,
+            forwards,
+            backwards,
+            a,
+            j,
+        );
+        if next.failed {
+            return ended(order, 0, Search::STALE);
+        }
+        let state = next.state;
+        let part = state.order;
+        let at = state.at;
+        m = append(&part[at..], &mut order, m);
+        a = next.forward;
+        j = next.backward;
+    }
+}
+
+// FZF over the writes by low end.
+fn split(
+    start: &[u64],
+    finish: &[u64],
+    writer: &[u64],
+    last: &[u64],
+    prev: &[u64],
+    late: &[u64],
+    list: &[u64],
+) -> Search
+    requires { ⌜ Sound (cols (now start) (now finish) (now writer) (now last) (now prev)) ⌝ }
+    requires { ⌜ length (now start) ≤ 1024 ⌝ }
+    requires { ⌜ Known (cols (now start) (now finish) (now writer) (now last) (now prev)) ⌝ }
+    requires { ⌜ Zoned (cols (now start) (now finish) (now writer) (now last) (now prev)) (now late) ⌝ }
+    requires { ⌜ now list ≡ byLow (now finish) (now late) (now writer) ⌝ }
+    ensures { λ r. ⌜ ((allowance : ℕ) → Searched (cols (now (start .entry)) (now (finish .entry)) (now (writer .entry)) (now (last .entry)) (now (prev .entry))) allowance (λ H. untried (fzf H)) r) ⌝ }
+{
+    let mut forwards = [0u64; Row::LARGEST_COUNT];
+    let f = chunking::part(finish, late, list, true, &mut forwards);
+    let mut backwards = [0u64; Row::LARGEST_COUNT];
+    let b = chunking::part(finish, late, list, false, &mut backwards);
+    join(
+        start,
+        finish,
+        writer,
+        last,
+        prev,
+        late,
+        &forwards[..f],
+        &backwards[..b],
+    )
+}
+
+// FZF: whether the history is 2-atomic, with an order.
+pub fn search(start: &[u64], finish: &[u64], writer: &[u64], last: &[u64], prev: &[u64]) -> Search
+    requires { ⌜ Sound (cols (now start) (now finish) (now writer) (now last) (now prev)) ⌝ }
+    requires { ⌜ length (now start) ≤ 1024 ⌝ }
+    requires { ⌜ Known (cols (now start) (now finish) (now writer) (now last) (now prev)) ⌝ }
+    ensures { λ r. ⌜ ((allowance : ℕ) → Searched (cols (now (start .entry)) (now (finish .entry)) (now (writer .entry)) (now (last .entry)) (now (prev .entry))) allowance (λ H. untried (fzf H)) r) ⌝ }
+{
+    let n = start.len();
+    let mut late = [0u64; Row::LARGEST_COUNT];
+    zones::lates(start, writer, last, &mut late[..n]);
+    let mut list = [0u64; Row::LARGEST_COUNT];
+    let m = zones::by_low(finish, &late[..n], writer, &mut list);
+    split(start, finish, writer, last, prev, &late[..n], &list[..m])
+}
