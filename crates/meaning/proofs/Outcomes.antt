@@ -87,6 +87,10 @@ module _ (size : ℕ) (h : List Op) (question : ℕ) (list : List ℕ) where
         room = ltb-false (length list) (length h) (if-so _ (no-fault-right nine ten f .0));
       }
 
+  -- code 0 of tests 1 to 10 says that they are passed
+  pub met-passes : met .code ≡ 0 → Passes size h question list
+  met-passes e = passes (code-no-fault (markTests size h question list) mark-coded (passed (length h)) e)
+
   -- what the method gives, by cases
   module _ (a : Pairs (λ x y. x .row < y .row) h) (allowance : ℕ) where
     abbrev Mine : Outcome → Type 0
@@ -108,7 +112,7 @@ module _ (size : ℕ) (h : List Op) (question : ℕ) (list : List ℕ) where
     marked? = go (eqb (met .code) 0) refl
       where
         go : (b : Bool) → eqb (met .code) 0 ≡ b → Mine (cond b (judged (length h) allowance list (method question (prepared h))) (record { answer = met; list = list }))
-        go true e = judged? (passes (code-no-fault (markTests size h question list) mark-coded (passed (length h)) (eqb-true _ _ e)))
+        go true e = judged? (met-passes (eqb-true _ _ e))
         go false e =
             is-refused {a = met}
             (λ p. eqb-false _ _ e (ap (λ x. x .code) (no-fault-answer (markTests size h question list) (passed (length h)) (no-fault p))))

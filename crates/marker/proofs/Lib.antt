@@ -1,0 +1,4 @@
+-- The laws of the marking call's steps.
+pub mod Refusing
+pub mod Answering
+pub mod Working

@@ -1,0 +1,134 @@
+-- From the rows of a screened register to the outcome: what the search takes, that an order fits the list, and what is lent.
+-- Assumes nothing.
+use Prim.Native.Nat.{ℕ, _-_, _≤_}
+use mathlib.Core.Path.{_≡_, sym, ap, _∙_}
+use mathlib.Core.List.{List}
+use native.Mathlib.Omega.{arith}
+use lib.ListN.{length, take, drop, replicate, length-map, length-append, take-append-drop}
+use Rattle.lists.proofs.Pairs.{pairs-map}
+use Rattle.lists.proofs.Cover.{no-longer-by}
+use Rattle.lists.proofs.Sorts.{sort-length}
+use Rattle.history.specs.declared.Op.{Op}
+use Rattle.history.specs.Table.{history}
+use Rattle.methods.specs.Prepared.{startsFirst, byStart, prepared}
+use Rattle.methods.specs.Zones.{order}
+use Rattle.methods.specs.Mark.{Outcome, kOf, method, rowNumbers, written, judged}
+use Rattle.preparation.proofs.Rows.{history-rows}
+use Rattle.meaning.specs.Marked.{Passes}
+use Rattle.meaning.proofs.Methods.{Settles, settles-order, method-settles}
+use Rattle.positions.specs.Columns.{Cols, size, op, ops, Sound}
+use Rattle.positions.proofs.Columns.{size-is, of-sound}
+use Rattle.positions.proofs.Arrays.{front-long, zero-long}
+use Rattle.placing.specs.declared.Search.{Search}
+use Rattle.placing.specs.Searched.{found, Searched, is-stale, is-fresh, is-spent}
+use Rattle.columns.specs.Rows.{Listed}
+use Rattle.columns.specs.Made.{Room, Made}
+use Rattle.columns.proofs.Made.{prepared-rows}
+use Rattle.columns.proofs.Sorted.{rows-few, rows-listed}
+use Rattle.fzf.specs.Items.{Known}
+use Rattle.marker.specs.Called.{Asked, Fits, Replied}
+use Rattle.marker.proofs.Answering.{found-long}
+
+-- a front that has its whole length is within the list
+pub front-in : (n : ℕ) (l : List ℕ) → n ≡ length (take n l) → n ≤ length l
+front-in n l e = omega (arith, e, ap length (take-append-drop n l), length-append (take n l) (drop n l))
+
+module _ {t : List ℕ} {register : ℕ} {rows : List ℕ} (g : Listed t register rows) where
+  -- the register's operations
+  abbrev h : List Op
+  h = history t register
+
+  -- as many rows as the register has
+  rows-long : length rows ≡ length h
+  unfolding byStart
+  rows-long = ap length (g .listed) ∙ length-map (byStart h) (λ x. x .row) ∙ sort-length startsFirst h
+
+  -- what the search takes
+  pub search-takes : {C : Cols} → Made t rows C → length rows ≤ 1024 → Sound C × ((size C ≤ 1024) × Known C)
+  search-takes {C} m few =
+      let o = m .columns register g in (
+        of-sound o (m .chains),
+        (omega (arith, size-is o, ap length (prepared-rows g), length-map (prepared h) (λ x. x .row)), (prepared h, o)),
+      )
+
+  module _ (question : ℕ) (asked : Asked question) where
+    -- an order of the register is no longer than it
+    order-few : (p : List Op) → method question (prepared h) .decision ≡ order p → length p ≤ length h
+    order-few p e =
+        let s : Settles (kOf question) h (method question (prepared h) .decision) = method-settles (g .screened) (history-rows t register) question asked in
+        go (rw e at s)
+      where
+        go : Settles (kOf question) h (order p) → length p ≤ length h
+        go (settles-order {o = o} q i) =
+            omega (
+              arith,
+              ap length q,
+              length-map p (λ x. x .row),
+              length-map o (λ x. x .row),
+              no-longer-by (λ x. x .row) (pairs-map (i .pairs) (λ x y k l b. b .apart)) h (i .from),
+            )
+
+    -- and so it fits the list
+    pub found-fits : {C : Cols} {allowance : ℕ} → Made t rows C → (r : Search) → Searched C allowance (method question) r → (list : List ℕ) → length rows ≤ length list → Fits r list
+    found-fits m r (is-stale q l s) list room =
+        record {
+          rising = λ e. absurd (omega (arith, q, e));
+          inside = λ e. absurd (omega (arith, q, e));
+          cells = λ e. absurd (omega (arith, q, e));
+          room = λ e. absurd (omega (arith, q, e));
+        }
+    found-fits m r (is-spent q s) list room =
+        record {
+          rising = λ e. absurd (omega (arith, q, e));
+          inside = λ e. absurd (omega (arith, q, e));
+          cells = λ e. absurd (omega (arith, q, e));
+          room = λ e. absurd (omega (arith, q, e));
+        }
+    found-fits m r (is-fresh q l a b c s) list room =
+        record { rising = λ e. a; inside = λ e. b; cells = λ e. c; room = λ e. few }
+      where
+        few : r .to - r .from ≤ length list
+        few =
+            omega (
+              arith,
+              rows-long,
+              found-long r a b c,
+              length-map (found r) (op (prepared h)),
+              order-few (ops (prepared h) (found r)) (ap (λ x. x .decision) (s (prepared h) (m .columns register g))),
+            )
+
+  -- THE OUTCOME, from what was found
+  pub work-ends : {C : Cols} {r : Search} (question allowance : ℕ) (list : List ℕ) (out : Outcome) → Made t rows C → Searched C allowance (method question) r →
+      Replied rows allowance r list out → out ≡ judged (length h) allowance list (method question (prepared h))
+  work-ends {C} question allowance list out m k f =
+      f C (prepared h) (method question) (m .columns register g) (prepared-rows g) k
+      ∙ ap (λ (n : ℕ). judged n allowance list (method question (prepared h))) rows-long
+
+-- What is lent of the local arrays, where a register passes tests 1 to 10.
+module _ (t : List ℕ) (register question : ℕ) (list : List ℕ) (p : Passes (length t) (history t register) question list) (n : ℕ) (rows : List ℕ)
+    (long : length rows ≡ length (replicate {A = ℕ} 1024 0))
+    (e : (n ≡ length (history t register)) × (rows ≡ written (rowNumbers (byStart (history t register))) (replicate 1024 0))) where
+  -- they are no more than the arrays have places
+  pub few : n ≤ 1024
+  few = omega (arith, e .0, rows-few t register, p .screened .few)
+
+  -- what is lent of the rows is as long as they are
+  pub front : n ≡ length (take n rows)
+  front = front-long n rows long few
+
+  -- it is the register's rows by rising start
+  pub listed : Listed t register (take n rows)
+  listed = rows-listed t register n (replicate 1024 0) rows (p .screened) e
+
+  -- the other slices are as long
+  zeros : length (take {A = ℕ} n (replicate 1024 0)) ≡ length (take n rows)
+  zeros = sym (zero-long n few) ∙ front
+
+  -- what the work takes
+  pub work-takes :
+      Room (take n rows) (take n (replicate 1024 0)) (take n (replicate 1024 0)) (take n (replicate 1024 0)) (take n (replicate 1024 0)) (take n (replicate 1024 0))
+      × (((r : ℕ) × Listed t r (take n rows)) × ((length (take n rows) ≤ 1024) × ((length (take n rows) ≤ length list) × Asked question)))
+  work-takes = (
+    record { room-start = zeros; room-finish = zeros; room-writer = zeros; room-last = zeros; room-prev = zeros },
+    ((register, listed), (omega (arith, front, few), (omega (arith, front, e .0, p .room), p .asked))),
+  )

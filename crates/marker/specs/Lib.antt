@@ -1,0 +1,2 @@
+-- What the functions of the marking call take and leave.
+pub mod Called

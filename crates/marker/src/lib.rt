@@ -1,0 +1,197 @@
+// The marking call: tests 1 to 10, and then the method of the question over the register's prepared history.
+use history::Answer;
+use history::Row;
+use placing::Search;
+ghost use mathlib.Core.Path.{_≡_};
+ghost use mathlib.Core.List.{List};
+ghost use Prim.Native.Nat.{ℕ, _≤_};
+ghost use lib.ListN.{length};
+ghost use Rattle.history.specs.Table.{history, Alike};
+ghost use Rattle.history.specs.Answer.{firstMet, passed};
+ghost use Rattle.methods.specs.Prepared.{prepared};
+ghost use Rattle.methods.specs.Lbt.{lbt};
+ghost use Rattle.methods.specs.Mark.{noQuestion, walked, method, judged, markTests, mark};
+ghost use Rattle.meaning.specs.Marked.{Passes};
+ghost use Rattle.meaning.specs.Demand.{Demand};
+ghost use Rattle.positions.specs.Columns.{cols, Sound};
+ghost use Rattle.placing.specs.Searched.{Searched};
+ghost use Rattle.columns.specs.Rows.{Listed};
+ghost use Rattle.columns.specs.Made.{Room};
+ghost use Rattle.fzf.specs.Items.{Known};
+ghost use Rattle.marker.specs.Called.{outcome, Asked, Fits, Replied};
+
+const ZONES: u64 = 1;
+
+const LBT: u64 = 2;
+
+const FZF: u64 = 3;
+
+// Whether there is no such question.
+fn unasked(question: u64) -> bool
+    ensures { λ r. ⌜ r ≡ noQuestion question ⌝ }
+{
+    if question == ZONES {
+        return false;
+    }
+    if question == LBT {
+        return false;
+    }
+    question != FZF
+}
+
+// Tests 1 to 10, with a list of so many places.
+fn refusal(table: &[u64], register: u64, question: u64, room: usize) -> Answer
+    ensures { λ r. ⌜ ((list : List ℕ) → length list ≡ room → r ≡ firstMet (markTests (length (now (table .entry))) (history (now (table .entry)) register) question list) (passed (length (history (now (table .entry)) register)))) ⌝ }
+{
+    let nine = screening::examine(table, register, unasked(question));
+    if nine.code != 0 {
+        return nine;
+    }
+    if (room as u64) < nine.rows {
+        return Answer::refused(Answer::SHORT_LIST, 0);
+    }
+    nine
+}
+
+// LBT, with the writes by falling finish.
+fn walk(
+    start: &[u64],
+    finish: &[u64],
+    writer: &[u64],
+    last: &[u64],
+    prev: &[u64],
+    allowance: u64,
+) -> Search
+    requires { ⌜ Sound (cols (now start) (now finish) (now writer) (now last) (now prev)) ⌝ }
+    requires { ⌜ length (now start) ≤ 1024 ⌝ }
+    ensures { λ r. ⌜ Searched (cols (now (start .entry)) (now (finish .entry)) (now (writer .entry)) (now (last .entry)) (now (prev .entry))) allowance (λ H. walked (lbt H)) r ⌝ }
+{
+    let mut falling = [0u64; Row::LARGEST_COUNT];
+    let m = columns::falls(finish, writer, &mut falling);
+    lbt::search(start, finish, writer, last, prev, &falling[..m], allowance)
+}
+
+// The search by the method of the question.
+fn search(
+    start: &[u64],
+    finish: &[u64],
+    writer: &[u64],
+    last: &[u64],
+    prev: &[u64],
+    question: u64,
+    allowance: u64,
+) -> Search
+    requires { ⌜ Sound (cols (now start) (now finish) (now writer) (now last) (now prev)) ⌝ }
+    requires { ⌜ length (now start) ≤ 1024 ⌝ }
+    requires { ⌜ Known (cols (now start) (now finish) (now writer) (now last) (now prev)) ⌝ }
+    ensures { λ r. ⌜ Searched (cols (now (start .entry)) (now (finish .entry)) (now (writer .entry)) (now (last .entry)) (now (prev .entry))) allowance (method question) r ⌝ }
+{
+    if question == ZONES {
+        return zones::search(start, finish, writer, last, prev);
+    }
+    if question == LBT {
+        return walk(start, finish, writer, last, prev, allowance);
+    }
+    fzf::search(start, finish, writer, last, prev)
+}
+
+// The answer to what was found, and the order's rows at the front of the list where it is fresh.
+fn answer(found: Search, rows: &[u64], allowance: u64, list: &mut [u64]) -> Answer
+    requires { ⌜ Fits found (now list) ⌝ }
+    ensures { λ r. ⌜ Replied (now (rows .entry)) allowance found (now (list .entry)) (outcome r (now (list .exit))) ⌝ }
+{
+    let kind = found.kind;
+    let trials = found.trials;
+    let count = rows.len() as u64;
+    if kind == Search::STALE {
+        return Answer {
+            code: Answer::STALE,
+            row: 0,
+            rows: count,
+            trials,
+        };
+    }
+    if kind != Search::FRESH {
+        return Answer {
+            code: Answer::SPENT,
+            row: 0,
+            rows: 0,
+            trials: allowance,
+        };
+    }
+    let order = found.order;
+    let from = found.from;
+    let to = found.to;
+    let m = to - from;
+    columns::rows_at(rows, &order[from..to], &mut list[..m]);
+    Answer {
+        code: Answer::FRESH,
+        row: 0,
+        rows: count,
+        trials,
+    }
+}
+
+// The mark of a screened register, from its rows by rising start and a place for each in the other slices.
+fn work(
+    table: &[u64],
+    rows: &[u64],
+    start: &mut [u64],
+    finish: &mut [u64],
+    writer: &mut [u64],
+    last: &mut [u64],
+    prev: &mut [u64],
+    question: u64,
+    allowance: u64,
+    list: &mut [u64],
+) -> Answer
+    requires { ⌜ Room (now rows) (now start) (now finish) (now writer) (now last) (now prev) ⌝ }
+    requires { ⌜ ((register : ℕ) × Listed (now table) register (now rows)) ⌝ }
+    requires { ⌜ length (now rows) ≤ 1024 ⌝ }
+    requires { ⌜ length (now rows) ≤ length (now list) ⌝ }
+    requires { ⌜ Asked question ⌝ }
+    ensures { λ r. ⌜ ((register : ℕ) → Listed (now (table .entry)) register (now (rows .entry)) → outcome r (now (list .exit)) ≡ judged (length (history (now (table .entry)) register)) allowance (now (list .entry)) (method question (prepared (history (now (table .entry)) register)))) ⌝ }
+{
+    columns::fill(table, rows, start, finish, writer, last, prev);
+    let found = search(start, finish, writer, last, prev, question, allowance);
+    answer(found, rows, allowance, list)
+}
+
+// The mark of a register that passes tests 1 to 10.
+fn marked(table: &[u64], register: u64, question: u64, allowance: u64, list: &mut [u64]) -> Answer
+    requires { ⌜ Passes (length (now table)) (history (now table) register) question (now list) ⌝ }
+    ensures { λ r. ⌜ outcome r (now (list .exit)) ≡ judged (length (history (now (table .entry)) register)) allowance (now (list .entry)) (method question (prepared (history (now (table .entry)) register))) ⌝ }
+{
+    let mut rows = [0u64; Row::LARGEST_COUNT];
+    let n = columns::rows_by_start(table, register, &mut rows);
+    let mut start = [0u64; Row::LARGEST_COUNT];
+    let mut finish = [0u64; Row::LARGEST_COUNT];
+    let mut writer = [0u64; Row::LARGEST_COUNT];
+    let mut last = [0u64; Row::LARGEST_COUNT];
+    let mut prev = [0u64; Row::LARGEST_COUNT];
+    work(
+        table,
+        &rows[..n],
+        &mut start[..n],
+        &mut finish[..n],
+        &mut writer[..n],
+        &mut last[..n],
+        &mut prev[..n],
+        question,
+        allowance,
+        list,
+    )
+}
+
+// The marking call: fresh with an order at the front of the list, stale, spent, or a refusal; but for fresh the list is left as it was.
+pub fn mark(table: &[u64], register: u64, question: u64, allowance: u64, list: &mut [u64]) -> Answer
+    ensures outcome { λ r. ⌜ outcome r (now (list .exit)) ≡ mark (now (table .entry)) register question allowance (now (list .entry)) ⌝ }
+    ensures demand { λ r. ⌜ Demand (now (table .entry)) register question allowance (now (list .entry)) (outcome r (now (list .exit))) ⌝ }
+    ensures alike { λ r. ⌜ ((u : List ℕ) → Alike (now (table .entry)) u register → outcome r (now (list .exit)) ≡ mark u register question allowance (now (list .entry))) ⌝ }
+{
+    let met = refusal(table, register, question, list.len());
+    if met.code != 0 {
+        return met;
+    }
+    marked(table, register, question, allowance, list)
+}
