@@ -26,7 +26,7 @@ fn follows(turn: &[u64], i: usize, asked: u64) -> bool
 }
 
 // Places the writes of the sequence, which stands last first, or fails.
-pub fn viable(
+fn viable(
     start: &[u64],
     finish: &[u64],
     writer: &[u64],

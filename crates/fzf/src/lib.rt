@@ -7,11 +7,12 @@ ghost use mathlib.Core.Path.{_≡_};
 ghost use mathlib.Core.List.{_++_};
 ghost use Prim.Native.Nat.{ℕ, _+_, _≤_, _<_};
 ghost use lib.ListN.{length, take};
+ghost use Rattle.methods.specs.Zones.{low};
 ghost use Rattle.methods.specs.Fzf.{fzf};
 ghost use Rattle.methods.specs.Mark.{untried};
 ghost use Rattle.positions.specs.Columns.{cols, Sound};
 ghost use Rattle.placing.specs.Searched.{Searched};
-ghost use Rattle.zones.specs.Zones.{Zoned, Inside, byLow};
+ghost use Rattle.zones.specs.Zones.{zoneBy, Zoned, Inside, byLow};
 ghost use Rattle.fzf.specs.Items.{Known, forths, backs, Cut, Chunked, Nexts};
 ghost use Rattle.fzf.specs.Next.{chunkFirst, overAt, Waiting, endedAt};
 
@@ -21,6 +22,15 @@ pub struct Next {
     pub failed: bool,
     pub forward: usize,
     pub backward: usize,
+}
+
+// The low end of a cluster's zone, by which chunks and dangling clusters are joined.
+fn low_end(finish: &[u64], late: &[u64], w: usize) -> u64
+    requires { ⌜ w < length (now finish) ⌝ }
+    requires { ⌜ length (now late) ≡ length (now finish) ⌝ }
+    ensures { λ r. ⌜ r ≡ low (zoneBy (now (finish .entry)) (now (late .entry)) w) ⌝ }
+{
+    zones::zone_of(finish, late, w).low()
 }
 
 // The order of a chunk, from the writes of its run and all the backward ones.
@@ -42,8 +52,7 @@ fn chunk(
     requires { ⌜ now backwards ≡ backs (cols (now start) (now finish) (now writer) (now last) (now prev)) (now late) ⌝ }
     ensures { λ r. ⌜ Chunked (cols (now (start .entry)) (now (finish .entry)) (now (writer .entry)) (now (last .entry)) (now (prev .entry))) (now (run .entry)) top r ⌝ }
 {
-    let zone = zones::zone_of(finish, late, run[0] as usize);
-    let bottom = zone.low();
+    let bottom = low_end(finish, late, run[0] as usize);
     let mut list = [0u64; Row::LARGEST_COUNT];
     let k = chunking::inner(finish, late, backwards, bottom, top, &mut list);
     let s = chunking::free(writer, run, &list[..k]);
@@ -70,9 +79,9 @@ fn chunk_first(
     if backwards.len() <= j {
         return true;
     }
-    let chunk = zones::zone_of(finish, late, forwards[a] as usize);
-    let cluster = zones::zone_of(finish, late, backwards[j] as usize);
-    chunk.low() <= cluster.low()
+    let chunk = low_end(finish, late, forwards[a] as usize);
+    let cluster = low_end(finish, late, backwards[j] as usize);
+    chunk <= cluster
 }
 
 // Whether nothing is left: f forward writes and b backward ones, of which the first a and j are done.

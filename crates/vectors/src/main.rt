@@ -1,11 +1,75 @@
-// The histories with known marks of document 01, executed: a line for each call, name,code,row,rows,trials, held to the file stdout.
+// The histories with known marks of document 01, executed: a line for each call, name,code,row,rows,trials, and where a list was lent a line
+// with the list after the call; held to the file stdout.
 use history::Answer;
 use history::Row;
 use libc::STDOUT_FILENO;
 
 const C2: [u64; 15] = [7, 1, 1, 1, 2, 7, 1, 2, 3, 4, 7, 2, 1, 5, 6];
 
+const C3: [u64; 20] = [7, 1, 1, 1, 2, 7, 1, 2, 3, 4, 7, 1, 3, 5, 6, 7, 2, 1, 7, 8];
+
 const C4: [u64; 15] = [7, 1, 1, 1, 4, 7, 2, 1, 10, 12, 7, 1, 2, 3, 6];
+
+const C5: [u64; 25] = [
+    7,
+    1,
+    1,
+    1,
+    10,
+    7,
+    1,
+    2,
+    2,
+    12,
+    7,
+    1,
+    3,
+    3,
+    9,
+    7,
+    2,
+    1,
+    13,
+    14,
+    7,
+    2,
+    3,
+    15,
+    16,
+];
+
+const C6: [u64; 30] = [
+    7,
+    1,
+    1,
+    1,
+    4,
+    7,
+    1,
+    2,
+    2,
+    5,
+    7,
+    1,
+    3,
+    3,
+    6,
+    7,
+    2,
+    1,
+    7,
+    8,
+    7,
+    2,
+    2,
+    9,
+    10,
+    7,
+    2,
+    3,
+    11,
+    12,
+];
 
 const C7: [u64; 10] = [7, 1, 1, 5, 9, 7, 2, 1, 2, 6];
 
@@ -28,6 +92,17 @@ fn show(name: &[u8], a: Answer) {
     field(a.row);
     field(a.rows);
     field(a.trials);
+    io::write_all(STDOUT_FILENO, b"\n");
+}
+
+// A list, on a line of its own.
+fn places(list: &[u64]) {
+    let n = list.len();
+    let mut i: usize = 0;
+    while i < n {
+        field(list[i]);
+        i += 1;
+    }
     io::write_all(STDOUT_FILENO, b"\n");
 }
 
@@ -106,23 +181,87 @@ fn misfit_lists() {
     );
 }
 
+// One mark of register 7, with a list of seven places.
+fn line(name: &[u8], table: &[u64], question: u64, allowance: u64) {
+    let mut list = [90u64, 91, 92, 93, 94, 95, 96];
+    show(name, marker::mark(table, 7, question, allowance, &mut list));
+    places(&list);
+}
+
+// The three questions, LBT with an allowance that is always enough.
+fn three(name: &[u8], table: &[u64]) {
+    line(name, table, 1, 0);
+    line(name, table, 2, 524800);
+    line(name, table, 3, 0);
+}
+
+fn marks() {
+    three(b"C1 marked", &[]);
+    three(b"C2 marked", &C2);
+    three(b"C3 marked", &C3);
+    three(b"C4 marked", &C4);
+    three(b"C5 marked", &C5);
+}
+
+fn more_marks() {
+    three(b"C6 marked", &C6);
+    three(b"C7 marked", &C7);
+    three(b"C8 marked", &C8);
+}
+
+fn allowances() {
+    line(b"C5 by LBT with 3 trials", &C5, 2, 3);
+    line(b"C5 by LBT with 2 trials", &C5, 2, 2);
+    line(b"C5 by LBT with none", &C5, 2, 0);
+    line(b"C5 for question 0", &C5, 0, 3);
+    line(b"C5 for the largest question", &C5, 18446744073709551615, 3);
+}
+
+fn marked_stamps() {
+    three(b"C12 largest stamp marked", &LARGEST);
+    three(b"C12 a larger one marked", &TOO_LARGE);
+    three(b"C12 start equal to finish marked", &EMPTY_SPAN);
+}
+
+// One mark of register 7; of the list the first and the last two places are shown.
+fn ends(name: &[u8], table: &[u64], question: u64, list: &mut [u64]) {
+    show(name, marker::mark(table, 7, question, 524800, list));
+    let n = list.len();
+    if n < 4 {
+        places(list);
+        return;
+    }
+    places(&[list[0], list[1], list[n - 2], list[n - 1]]);
+}
+
+// The full table by each question, with a place too few, and a table with a row too many.
+fn marked_limits() {
+    let mut full = [0u64; 5120];
+    fill(&mut full);
+    let mut list = [9000u64; 1024];
+    ends(b"C11 1024 rows by zones", &full, 1, &mut list);
+    ends(b"C11 1024 rows by LBT", &full, 2, &mut list);
+    ends(b"C11 1024 rows by FZF", &full, 3, &mut list);
+}
+
+fn refused_limits() {
+    let mut full = [0u64; 5120];
+    fill(&mut full);
+    ends(b"C11 a place too few", &full, 3, &mut [9000u64; 1023]);
+    let mut overfull = [0u64; 5125];
+    fill(&mut overfull);
+    ends(b"C11 1025 rows marked", &overfull, 3, &mut [9000u64; 1025]);
+}
+
 // An answer in a lent list: where there is room, and where there is none.
 fn written() {
     let answer = orders::check(&C2, 7, 2, &[1, 0, 2]);
     let mut list = [90u64, 91, 92, 93, 94];
     show(b"written to 5 places", answer.write(&mut list));
-    field(list[0]);
-    field(list[1]);
-    field(list[2]);
-    field(list[3]);
-    field(list[4]);
-    io::write_all(STDOUT_FILENO, b"\n");
+    places(&list);
     let mut short = [90u64, 91, 92];
     show(b"written to 3 places", answer.write(&mut short));
-    field(short[0]);
-    field(short[1]);
-    field(short[2]);
-    io::write_all(STDOUT_FILENO, b"\n");
+    places(&short);
 }
 
 fn main() {
@@ -133,4 +272,10 @@ fn main() {
     orders_refused();
     misfit_lists();
     written();
+    marks();
+    more_marks();
+    allowances();
+    marked_stamps();
+    marked_limits();
+    refused_limits();
 }

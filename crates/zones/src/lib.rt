@@ -158,7 +158,7 @@ pub fn by_low(finish: &[u64], late: &[u64], writer: &[u64], list: &mut [u64]) ->
 }
 
 // The clusters of the listed writes, in their sequence, in front of what is laid.
-pub fn lay(writer: &[u64], last: &[u64], prev: &[u64], list: &[u64], s: State) -> State
+fn lay(writer: &[u64], last: &[u64], prev: &[u64], list: &[u64], s: State) -> State
     requires { ⌜ Linked (now writer) (now last) (now prev) ⌝ }
     requires { ⌜ Ready (length (now writer)) s ⌝ }
     requires { ⌜ Whole (now writer) (now list) (length (now list)) s ⌝ }
