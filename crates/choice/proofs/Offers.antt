@@ -24,8 +24,9 @@ use Rattle.positions.proofs.Once.{pairs-once}
 use Rattle.placing.specs.declared.State.{State}
 use Rattle.placing.specs.declared.Tried.{Tried}
 use Rattle.placing.specs.States.{left, laid, Whose}
-use Rattle.choice.specs.Viable.{Turns, Viable, not-viable, is-viable}
-use Rattle.choice.specs.Offered.{backward, swapIf, endAt, oneAt, offer, offers, Offered, Tries, none-viable, took, Chosen, no-choice, chose}
+use Rattle.choice.specs.Gives.{Gives, no-order, an-order}
+use Rattle.choice.specs.Viable.{Turns, viableBy}
+use Rattle.choice.specs.Offered.{backward, swapIf, endAt, oneAt, offer, offers, Offered, triedBy, chosenBy}
 use Rattle.choice.proofs.Turning.{ops-back, ops-swap}
 
 -- Lists turned round and swapped.
@@ -268,12 +269,12 @@ first-then xs ys H K d e =
 
 module _ (C : Cols) (s : State) where
   -- one order
-  pub try-one : (T : List ℕ) (r : Tried) → Viable C (backward T) s r → Tries C (T ∷ []) s r
+  pub try-one : (T : List ℕ) (r : Tried) → Gives C (viableBy (backward T) s) s r → Gives C (triedBy (T ∷ []) s) s r
   unfolding firstViable
-  try-one T r (not-viable e n) =
-      none-viable e (λ H f. let q : viable (back (ops H T)) (ops H (left s)) ≡ none = ap (λ (l : List Op). viable l (ops H (left s))) (sym (ops-back H T)) ∙ n H f in rw (q, firstViable))
-  try-one T r (is-viable e g) =
-      took e
+  try-one T r (no-order e n) =
+      no-order e (λ H f. let q : viable (back (ops H T)) (ops H (left s)) ≡ none = ap (λ (l : List Op). viable l (ops H (left s))) (sym (ops-back H T)) ∙ n H f in rw (q, firstViable))
+  try-one T r (an-order e g) =
+      an-order e
       (record {
         holds = g .holds;
         placed = g .placed;
@@ -284,11 +285,11 @@ module _ (C : Cols) (s : State) where
       })
 
   module _ (xs ys : List (List ℕ)) where
-    pub try-hit : (r : Tried) → Tries C xs s r → r .failed ≡ false → Tries C (xs ++ ys) s r
+    try-hit : (r : Tried) → Gives C (triedBy xs s) s r → r .failed ≡ false → Gives C (triedBy (xs ++ ys) s) s r
     unfolding orElse
-    try-hit r (none-viable e n) q = absurd (both e q)
-    try-hit r (took e g) q =
-        took e
+    try-hit r (no-order e n) q = absurd (both e q)
+    try-hit r (an-order e g) q =
+        an-order e
         (record {
           holds = g .holds;
           placed = g .placed;
@@ -296,13 +297,13 @@ module _ (C : Cols) (s : State) where
           whole = λ H f. first-then xs ys H (ops H (left s)) _ (g .whole H f);
         })
 
-    pub try-miss : (a r : Tried) → Tries C xs s a → a .failed ≡ true → Tries C ys s r → Tries C (xs ++ ys) s r
+    try-miss : (a r : Tried) → Gives C (triedBy xs s) s a → a .failed ≡ true → Gives C (triedBy ys s) s r → Gives C (triedBy (xs ++ ys) s) s r
     unfolding orElse
-    try-miss a r (took e g) q t = absurd (both q e)
-    try-miss a r (none-viable e n) q (none-viable d m) =
-        none-viable d (λ H f. first-then xs ys H (ops H (left s)) none (n H f) ∙ m H f)
-    try-miss a r (none-viable e n) q (took d g) =
-        took d
+    try-miss a r (an-order e g) q t = absurd (both q e)
+    try-miss a r (no-order e n) q (no-order d m) =
+        no-order d (λ H f. first-then xs ys H (ops H (left s)) none (n H f) ∙ m H f)
+    try-miss a r (no-order e n) q (an-order d g) =
+        an-order d
         (record {
           holds = g .holds;
           placed = g .placed;
@@ -312,11 +313,11 @@ module _ (C : Cols) (s : State) where
 
   -- unflipped, and flipped where there is something to flip
   module _ (t b : List ℕ) (swap : Bool) where
-    pub try-none : length b ≡ 0 → (r : Tried) → Tries C (offer t b false swap ∷ []) s r → Tries C (offers t b swap) s r
+    pub try-none : length b ≡ 0 → (r : Tried) → Gives C (triedBy (offer t b false swap ∷ []) s) s r → Gives C (triedBy (offers t b swap) s) s r
     unfolding offers
     try-none e r k = go b e k
       where
-        go : (b : List ℕ) → length b ≡ 0 → Tries C (offer t b false swap ∷ []) s r → Tries C (offers t b swap) s r
+        go : (b : List ℕ) → length b ≡ 0 → Gives C (triedBy (offer t b false swap ∷ []) s) s r → Gives C (triedBy (offers t b swap) s) s r
         go [] e k = k
         go (w ∷ l) e k = absurd (omega arith)
 
@@ -328,19 +329,19 @@ module _ (C : Cols) (s : State) where
         go [] h = absurd (omega arith)
         go (w ∷ l) h = refl
 
-    pub try-first : 0 < length b → (r : Tried) → Tries C (offer t b false swap ∷ []) s r → r .failed ≡ false → Tries C (offers t b swap) s r
-    try-first h r k e = rw (← two-offers h) (try-hit _ _ r k e)
+    pub try-first : 0 < length b → (r : Tried) → Gives C (triedBy (offer t b false swap ∷ []) s) s r → r .failed ≡ false → Gives C (triedBy (offers t b swap) s) s r
+    try-first h r k e = rw (← two-offers h) (try-hit (offer t b false swap ∷ []) (offer t b true swap ∷ []) r k e)
 
-    pub try-second : 0 < length b → (a r : Tried) → Tries C (offer t b false swap ∷ []) s a → a .failed ≡ true → Tries C (offer t b true swap ∷ []) s r →
-        Tries C (offers t b swap) s r
-    try-second h a r k e m = rw (← two-offers h) (try-miss _ _ a r k e m)
+    pub try-second : 0 < length b → (a r : Tried) → Gives C (triedBy (offer t b false swap ∷ []) s) s a → a .failed ≡ true → Gives C (triedBy (offer t b true swap ∷ []) s) s r →
+        Gives C (triedBy (offers t b swap) s) s r
+    try-second h a r k e m = rw (← two-offers h) (try-miss (offer t b false swap ∷ []) (offer t b true swap ∷ []) a r k e m)
 
   -- all of figure 4's
-  pub chosen-all : (t b : List ℕ) → length b ≤ 2 → (r : Tried) → Tries C (offers t b false ++ offers t b true) s r → Chosen C t b s r
-  chosen-all t b h r (none-viable e n) =
-      no-choice e (λ H f. ap (λ (l : List (List Op)). firstViable l (ops H (left s))) (sym (listed-is H t b h)) ∙ n H f)
-  chosen-all t b h r (took e g) =
-      chose e
+  chosen-all : (t b : List ℕ) → length b ≤ 2 → (r : Tried) → Gives C (triedBy (offers t b false ++ offers t b true) s) s r → Gives C (chosenBy t b s) s r
+  chosen-all t b h r (no-order e n) =
+      no-order e (λ H f. ap (λ (l : List (List Op)). firstViable l (ops H (left s))) (sym (listed-is H t b h)) ∙ n H f)
+  chosen-all t b h r (an-order e g) =
+      an-order e
       (record {
         holds = g .holds;
         placed = g .placed;
@@ -348,10 +349,17 @@ module _ (C : Cols) (s : State) where
         whole = λ H f. ap (λ (l : List (List Op)). firstViable l (ops H (left s))) (sym (listed-is H t b h)) ∙ g .whole H f;
       })
 
+  pub chosen-first : (t b : List ℕ) → length b ≤ 2 → (r : Tried) → Gives C (triedBy (offers t b false) s) s r → r .failed ≡ false → Gives C (chosenBy t b s) s r
+  chosen-first t b h r k e = chosen-all t b h r (try-hit (offers t b false) (offers t b true) r k e)
+
+  pub chosen-second : (t b : List ℕ) → length b ≤ 2 → (a r : Tried) → Gives C (triedBy (offers t b false) s) s a → a .failed ≡ true →
+      Gives C (triedBy (offers t b true) s) s r → Gives C (chosenBy t b s) s r
+  chosen-second t b h a r k e m = chosen-all t b h r (try-miss (offers t b false) (offers t b true) a r k e m)
+
   -- three backward clusters or more: none is listed
-  pub chosen-none : (t b : List ℕ) → 2 < length b → (r : Tried) → r .failed ≡ true → Chosen C t b s r
+  pub chosen-none : (t b : List ℕ) → 2 < length b → (r : Tried) → r .failed ≡ true → Gives C (chosenBy t b s) s r
   unfolding listed firstViable
-  chosen-none t b h r e = no-choice e (λ H f. ap (λ (l : List (List Op)). firstViable l (ops H (left s))) (none-listed H b h))
+  chosen-none t b h r e = no-order e (λ H f. ap (λ (l : List (List Op)). firstViable l (ops H (left s))) (none-listed H b h))
     where
       none-listed : (H : List Op) (b : List ℕ) → 2 < length b → listed (ops H t) (ops H b) ≡ []
       none-listed H [] k = absurd (omega arith)

@@ -24,7 +24,8 @@ use Rattle.placing.specs.declared.State.{State}
 use Rattle.placing.specs.declared.Tried.{Tried}
 use Rattle.placing.specs.States.{left, laid, Holds, Whose}
 use Rattle.placing.specs.Stepped.{Stepped, fails, goes}
-use Rattle.choice.specs.Viable.{follows, Turns, Viable, not-viable, is-viable}
+use Rattle.choice.specs.Gives.{Gives, no-order, an-order}
+use Rattle.choice.specs.Viable.{follows, Turns, viableBy}
 use Rattle.choice.proofs.Following.{headOf, Head, asksFirst, all-follow, one-not, broken-not}
 
 behind-nil : (d : Decision) → putBehind d [] ≡ d
@@ -75,10 +76,10 @@ module _ (C : Cols) (p : Sound C) (T : List ℕ) (s : State) where
   place-none h k =
       record { within = omega arith; holds = h; whose = λ j a b. k .whose j b; placed = []; lays = refl; whole = λ H f. sym (behind-nil _) }
 
-  pub place-end : (i : ℕ) (t : State) → Placing C T s i t → length T ≤ i → Viable C T s (record { state = t; asked = 0; failed = false })
+  pub place-end : (i : ℕ) (t : State) → Placing C T s i t → length T ≤ i → Gives C (viableBy T s) s (record { state = t; asked = 0; failed = false })
   unfolding viable putBehind
   place-end i t g l =
-      is-viable refl
+      an-order refl
       (record {
         holds = g .holds;
         placed = g .placed;
@@ -115,17 +116,17 @@ module _ (C : Cols) (p : Sound C) (T : List ℕ) (s : State) where
         ∙ ap (λ (k : List ℕ). putBehind (viable (ops H k) (ops H (left t))) (ops H (g .placed))) d
         ∙ ap (λ (x : Decision). putBehind x (ops H (g .placed))) (viable-one (op H w) (ops H L) (ops H (left t)) b e)
 
-    pub place-fails : (r : Tried) → Stepped C w t r → r .failed ≡ true → Viable C T s r
+    pub place-fails : (r : Tried) → Stepped C w t r → r .failed ≡ true → Gives C (viableBy T s) s r
     unfolding putBehind
-    place-fails r (fails e b) q = not-viable q (λ H f. one false H f (broken-not C p t (g .holds) w place-whose L head H f b))
+    place-fails r (fails e b) q = no-order q (λ H f. one false H f (broken-not C p t (g .holds) w place-whose L head H f b))
     place-fails r (goes e x) q = absurd (both q e)
 
     pub place-clash : (r : Tried) → Stepped C w t r → r .failed ≡ false → follows T (i + 1) (r .asked) ≡ false →
-        Viable C T s (record { state = t; asked = r .asked; failed = true })
+        Gives C (viableBy T s) s (record { state = t; asked = r .asked; failed = true })
     unfolding putBehind
     place-clash r (fails e b) q z = absurd (both e q)
     place-clash r (goes e x) q z =
-        not-viable refl (λ H f. one false H f (one-not C p t (g .holds) w place-whose L head H f (r .asked) (x .told) (sym (follows-is T (i + 1) (r .asked)) ∙ z)))
+        no-order refl (λ H f. one false H f (one-not C p t (g .holds) w place-whose L head H f (r .asked) (x .told) (sym (follows-is T (i + 1) (r .asked)) ∙ z)))
 
     pub place-on : Turns (C .writer) T s → (r : Tried) → Stepped C w t r → r .failed ≡ false → follows T (i + 1) (r .asked) ≡ true → Placing C T s (i + 1) (r .state)
     place-on k r (fails e b) q z = absurd (both e q)

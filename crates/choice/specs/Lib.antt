@@ -1,3 +1,4 @@
 -- The orders of a chunk that figure 4 lists, tried one by one.
+pub mod Gives
 pub mod Viable
 pub mod Offered

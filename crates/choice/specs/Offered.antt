@@ -2,19 +2,18 @@
 -- backward ones, both by low end.
 -- Assumes nothing.
 use Prim.Native.Nat.{ℕ, suc, zero, _+_, _-_, _≤_}
-use mathlib.Core.Path.{_≡_}
 use mathlib.Core.Bool.{Bool, true, false, not, cond}
 use mathlib.Core.List.{List, [], _∷_, _++_, map, List·Memᴰ as In}
 use lib.ListN.{length, getD}
 use lib.Dec.{eqb, ltb}
 use Rattle.lists.specs.Pairs.{Pairs}
-use Rattle.methods.specs.Zones.{none, order}
+use Rattle.history.specs.declared.Op.{Op}
+use Rattle.methods.specs.Zones.{Decision}
 use Rattle.methods.specs.Fzf.{firstViable, listed}
 use Rattle.positions.specs.Places.{Unlike}
-use Rattle.positions.specs.Columns.{Cols, ops, Says}
+use Rattle.positions.specs.Columns.{ops}
 use Rattle.placing.specs.declared.State.{State}
-use Rattle.placing.specs.declared.Tried.{Tried}
-use Rattle.placing.specs.States.{left, laid, Holds, Whose}
+use Rattle.placing.specs.States.{left, Whose}
 
 -- a list of positions, last first
 unfoldable pub backward : List ℕ → List ℕ
@@ -58,26 +57,9 @@ pub record Offered (writer t b : List ℕ) (s : State) : Type 0 where
   pub apart : Pairs Unlike (t ++ b)
   pub room : length t + length b ≤ 1024
 
--- the first viable of some orders stands in front of what was laid
-pub record Took (C : Cols) (orders : List (List ℕ)) (s r : State) : Type 0 where
-  pub holds : Holds C r
-  pub placed : List ℕ
-  pub lays : placed ++ laid s ≡ laid r
-  pub whole : Says C (λ H. firstViable (map (ops H) orders) (ops H (left s)) ≡ order (ops H placed))
+-- what the definition says of some orders, and of all those of figure 4, over what is left
+abbrev pub triedBy : List (List ℕ) → State → List Op → Decision
+triedBy orders s H = firstViable (map (ops H) orders) (ops H (left s))
 
--- THE CONTRACT of trying some orders
-pub data Tries (C : Cols) (orders : List (List ℕ)) (s : State) (r : Tried) : Type 0 where
-  none-viable : r .failed ≡ true → Says C (λ H. firstViable (map (ops H) orders) (ops H (left s)) ≡ none) → Tries C orders s r
-  took : r .failed ≡ false → Took C orders s (r .state) → Tries C orders s r
-
--- the first viable order of figure 4 stands in front of what was laid
-pub record Chose (C : Cols) (t b : List ℕ) (s r : State) : Type 0 where
-  pub holds : Holds C r
-  pub placed : List ℕ
-  pub lays : placed ++ laid s ≡ laid r
-  pub whole : Says C (λ H. firstViable (listed (ops H t) (ops H b)) (ops H (left s)) ≡ order (ops H placed))
-
--- THE CONTRACT of the choice among them
-pub data Chosen (C : Cols) (t b : List ℕ) (s : State) (r : Tried) : Type 0 where
-  no-choice : r .failed ≡ true → Says C (λ H. firstViable (listed (ops H t) (ops H b)) (ops H (left s)) ≡ none) → Chosen C t b s r
-  chose : r .failed ≡ false → Chose C t b s (r .state) → Chosen C t b s r
+abbrev pub chosenBy : List ℕ → List ℕ → State → List Op → Decision
+chosenBy t b s H = firstViable (listed (ops H t) (ops H b)) (ops H (left s))

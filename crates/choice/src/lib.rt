@@ -8,8 +8,9 @@ ghost use Prim.Native.Nat.{ℕ, _+_, _≤_, _<_};
 ghost use lib.ListN.{length, getD, take};
 ghost use Rattle.positions.specs.Columns.{cols, Sound};
 ghost use Rattle.placing.specs.States.{Holds};
-ghost use Rattle.choice.specs.Viable.{follows, Turns, Viable};
-ghost use Rattle.choice.specs.Offered.{backward, swapIf, turned, endAt, oneAt, offer, offers, Offered, Tries, Chosen};
+ghost use Rattle.choice.specs.Gives.{Gives};
+ghost use Rattle.choice.specs.Viable.{follows, Turns, viableBy};
+ghost use Rattle.choice.specs.Offered.{backward, swapIf, turned, endAt, oneAt, offer, offers, Offered, triedBy, chosenBy};
 
 // Whether the write that is asked for, if any, is the one at i.
 fn follows(turn: &[u64], i: usize, asked: u64) -> bool
@@ -38,7 +39,7 @@ fn viable(
     requires { ⌜ Sound (cols (now start) (now finish) (now writer) (now last) (now prev)) ⌝ }
     requires { ⌜ Holds (cols (now start) (now finish) (now writer) (now last) (now prev)) s ⌝ }
     requires { ⌜ Turns (now writer) (now turn) s ⌝ }
-    ensures { λ r. ⌜ Viable (cols (now (start .entry)) (now (finish .entry)) (now (writer .entry)) (now (last .entry)) (now (prev .entry))) (now (turn .entry)) s r ⌝ }
+    ensures { λ r. ⌜ Gives (cols (now (start .entry)) (now (finish .entry)) (now (writer .entry)) (now (last .entry)) (now (prev .entry))) (viableBy (now (turn .entry)) s) s r ⌝ }
 {
     let n = turn.len();
     let mut t = s;
@@ -163,7 +164,7 @@ fn attempt(
     requires { ⌜ Sound (cols (now start) (now finish) (now writer) (now last) (now prev)) ⌝ }
     requires { ⌜ Holds (cols (now start) (now finish) (now writer) (now last) (now prev)) s ⌝ }
     requires { ⌜ Offered (now writer) (now forwards) (now inner) s ⌝ }
-    ensures { λ r. ⌜ Tries (cols (now (start .entry)) (now (finish .entry)) (now (writer .entry)) (now (last .entry)) (now (prev .entry))) (offer (now (forwards .entry)) (now (inner .entry)) flip swap ∷ []) s r ⌝ }
+    ensures { λ r. ⌜ Gives (cols (now (start .entry)) (now (finish .entry)) (now (writer .entry)) (now (last .entry)) (now (prev .entry))) (triedBy (offer (now (forwards .entry)) (now (inner .entry)) flip swap ∷ []) s) s r ⌝ }
 {
     let mut turn = [0u64; Row::LARGEST_COUNT];
     let m = lay_out(forwards, inner, flip, swap, &mut turn);
@@ -185,7 +186,7 @@ fn attempts(
     requires { ⌜ Sound (cols (now start) (now finish) (now writer) (now last) (now prev)) ⌝ }
     requires { ⌜ Holds (cols (now start) (now finish) (now writer) (now last) (now prev)) s ⌝ }
     requires { ⌜ Offered (now writer) (now forwards) (now inner) s ⌝ }
-    ensures { λ r. ⌜ Tries (cols (now (start .entry)) (now (finish .entry)) (now (writer .entry)) (now (last .entry)) (now (prev .entry))) (offers (now (forwards .entry)) (now (inner .entry)) swap) s r ⌝ }
+    ensures { λ r. ⌜ Gives (cols (now (start .entry)) (now (finish .entry)) (now (writer .entry)) (now (last .entry)) (now (prev .entry))) (triedBy (offers (now (forwards .entry)) (now (inner .entry)) swap) s) s r ⌝ }
 {
     let n = inner.len();
     let one = attempt(
@@ -234,7 +235,7 @@ pub fn choose(
     requires { ⌜ Sound (cols (now start) (now finish) (now writer) (now last) (now prev)) ⌝ }
     requires { ⌜ Holds (cols (now start) (now finish) (now writer) (now last) (now prev)) s ⌝ }
     requires { ⌜ Offered (now writer) (now forwards) (now inner) s ⌝ }
-    ensures { λ r. ⌜ Chosen (cols (now (start .entry)) (now (finish .entry)) (now (writer .entry)) (now (last .entry)) (now (prev .entry))) (now (forwards .entry)) (now (inner .entry)) s r ⌝ }
+    ensures { λ r. ⌜ Gives (cols (now (start .entry)) (now (finish .entry)) (now (writer .entry)) (now (last .entry)) (now (prev .entry))) (chosenBy (now (forwards .entry)) (now (inner .entry)) s) s r ⌝ }
 {
     let n = inner.len();
     if 2 < n {

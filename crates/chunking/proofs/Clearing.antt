@@ -16,7 +16,7 @@ use Rattle.placing.specs.declared.State.{State}
 use Rattle.placing.specs.States.{isFree, laid, begun, Ready, Whose}
 use Rattle.placing.specs.Owned.{Mine, Owned}
 use Rattle.zones.specs.Lay.{clusterAt}
-use Rattle.zones.proofs.Found.{begun-laid, begun-ready}
+use Rattle.placing.proofs.Begun.{begun-laid, begun-ready}
 use Rattle.chunking.specs.Freed.{unlisted, Marked, shut, Opened, Freed}
 use Rattle.chunking.proofs.Marking.{all-append}
 

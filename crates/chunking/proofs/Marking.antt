@@ -11,6 +11,7 @@ use lib.ListN.{length, getD, take, set, length-set}
 use lib.Seq.{take-all, take-suc, getD-set-same, getD-set-other}
 use lib.Dec.{eqb}
 use borrow.Author.Tests.{eqb-true, eqb-false}
+use Rattle.positions.proofs.Places.{no-cond, cond-assoc}
 use Rattle.lists.specs.Lists.{all}
 use Rattle.lists.proofs.Tests.{test}
 use Rattle.positions.specs.Places.{and}
@@ -27,22 +28,13 @@ all-append p (x ∷ a) b = go (p x) (all-append p a b)
     go true e = e
     go false e = refl
 
-pub yes : (b : Bool) → cond b true false ≡ b
+yes : (b : Bool) → cond b true false ≡ b
 yes true = refl
 yes false = refl
 
-pub no : (b : Bool) → cond b false false ≡ false
-no true = refl
-no false = refl
-
-pub all-one : {A : Type 0} (p : A → Bool) (x : A) → all p (x ∷ []) ≡ p x
+all-one : {A : Type 0} (p : A → Bool) (x : A) → all p (x ∷ []) ≡ p x
 unfolding all
 all-one p x = yes (p x)
-
--- three tests, one after the other
-pub assoc : (a b c : Bool) → cond a (cond b c false) false ≡ cond (cond a b false) c false
-assoc true b c = refl
-assoc false b c = refl
 
 -- the first i of the list are marked
 pub record Marking (list : List ℕ) (i : ℕ) (marks marks₀ : List ℕ) : Type 0 where
@@ -64,7 +56,7 @@ module _ (list marks₀ : List ℕ) where
         record {
           within = omega arith;
           long = length-set marks (getD list i 0) 1 ∙ g .long;
-          marked = λ j l. here-on j l ∙ sym (ap (λ (k : List ℕ). and (isFree marks₀) (unlisted k) j) next ∙ more j ∙ assoc (isFree marks₀ j) (unlisted (take i list) j) (not (eqb j (getD list i 0))));
+          marked = λ j l. here-on j l ∙ sym (ap (λ (k : List ℕ). and (isFree marks₀) (unlisted k) j) next ∙ more j ∙ cond-assoc (isFree marks₀ j) (unlisted (take i list) j) (not (eqb j (getD list i 0))));
         }
       where
         next : take (i + 1) list ≡ take i list ++ (getD list i 0 ∷ [])
@@ -82,5 +74,5 @@ module _ (list marks₀ : List ℕ) where
                 → isFree (set marks (getD list i 0) 1) j ≡ cond (cond (isFree marks₀ j) (unlisted (take i list) j) false) (not (eqb j (getD list i 0))) false
             go (inl e) =
                 let q : j ≡ getD list i 0 = eqb-true j (getD list i 0) e in
-                rw (e, ap (λ (k : ℕ). isFree (set marks (getD list i 0) 1) k) q, getD-set-same marks (getD list i 0) 1 0) (sym (no (cond (isFree marks₀ j) (unlisted (take i list) j) false)))
+                rw (e, ap (λ (k : ℕ). isFree (set marks (getD list i 0) 1) k) q, getD-set-same marks (getD list i 0) 1 0) (sym (no-cond (cond (isFree marks₀ j) (unlisted (take i list) j) false)))
             go (inr e) = rw (e, getD-set-other marks (getD list i 0) j 1 0 (eqb-false _ _ e)) (g .marked j l ∙ sym (yes (cond (isFree marks₀ j) (unlisted (take i list) j) false)))

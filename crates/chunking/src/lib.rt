@@ -3,7 +3,7 @@ use history::Row;
 use placing::State;
 ghost use mathlib.Core.Path.{_≡_};
 ghost use mathlib.Core.List.{_++_};
-ghost use Prim.Native.Nat.{ℕ, _≤_, _<_, max};
+ghost use Prim.Native.Nat.{ℕ, _≤_, _<_};
 ghost use lib.ListN.{length, getD, take};
 ghost use Rattle.lists.specs.Lists.{keep};
 ghost use Rattle.positions.specs.Columns.{Linked};
@@ -17,12 +17,6 @@ ghost use Rattle.chunking.specs.Freed.{Marked, shut, Opened, Freed};
 pub struct Span {
     pub end: usize,
     pub top: u64,
-}
-
-fn larger(a: u64, b: u64) -> u64
-    ensures { λ r. ⌜ r ≡ max a b ⌝ }
-{
-    if a <= b { b } else { a }
 }
 
 // Whether the zone of w is forward, or backward, as asked.
@@ -76,7 +70,7 @@ pub fn run(finish: &[u64], late: &[u64], list: &[u64], a: usize) -> Span
             return Span { end: i, top };
         }
         i += 1;
-        top = larger(top, y.high());
+        top = zones::larger(top, y.high());
     }
     Span { end: i, top }
 }

@@ -1,7 +1,7 @@
 -- The loop that makes the chains, in one pass over the writers.
 -- Assumes nothing.
 use Prim.Native.Nat.{ℕ, _+_, _≤_, _<_}
-use mathlib.Core.Path.{_≡_, refl, ap, sym, _∙_}
+use mathlib.Core.Path.{_≡_, ap, sym, _∙_}
 use mathlib.Core.Bool.{Bool, true, false, cond}
 use mathlib.Core.Logic.{_⊎_, inl, inr}
 use mathlib.Core.List.{List}
@@ -14,13 +14,9 @@ use borrow.Author.Tests.{eqb-true, eqb-false, eq-eqb, ne-eqb}
 use Rattle.lists.proofs.Tests.{test, both}
 use Rattle.positions.specs.Places.{latest}
 use Rattle.positions.specs.Columns.{mine, readOf, Linked}
-use Rattle.positions.proofs.Places.{below}
+use Rattle.positions.proofs.Places.{below, no-cond, cond-both}
 
 -- a test that leads to nothing either way
-no-cond : (b : Bool) → cond b false false ≡ false
-no-cond true = refl
-no-cond false = refl
-
 -- the last position, one further
 latest-one : (Q : ℕ → Bool) (i : ℕ) → latest Q (i + 1) ≡ cond (Q i) (i + 1) (latest Q i)
 unfolding latest
@@ -67,10 +63,6 @@ module _ (writer : List ℕ) where
         go (inr b) = inr (omega arith)
 
     -- both of two tests
-    split : (a b : Bool) → cond a b false ≡ true → (a ≡ true) × (b ≡ true)
-    split true b q = (refl, q)
-    split false b q = absurd (both q refl)
-
     -- a write is in no chain
     pub chain-write : getD writer i 0 ≡ i → Chained writer last prev (i + 1)
     chain-write e =
@@ -115,6 +107,6 @@ module _ (writer : List ℕ) where
         go : (w j : ℕ) → readOf writer w j ≡ true → (j < i) ⊎ (j ≡ i) → getD (set prev i (getD last v 0)) j 0 ≡ latest (readOf writer w) j
         go w j q (inl b) = getD-set-other prev i j (getD last v 0) 0 (λ e. omega arith) ∙ g .prevs w j b q
         go w j q (inr b) =
-            let e : v ≡ w = eqb-true v w (split _ _ (rw b at q) .0) in
+            let e : v ≡ w = eqb-true v w (cond-both _ _ (rw b at q) .0) in
             let l : i < length prev = omega (arith, g .previous) in
             rw b (getD-set-same prev i (getD last v 0) 0 l ∙ g .lasts v k ∙ ap (λ (x : ℕ). latest (readOf writer x) i) e)

@@ -12,7 +12,7 @@ ghost use Rattle.positions.specs.Columns.{cols, isOwn, Linked};
 ghost use Rattle.columns.specs.Gathered.{Gathered};
 ghost use Rattle.columns.specs.Rows.{Listed, Fit};
 ghost use Rattle.columns.specs.Writers.{writes, seek, writesAt, writerOf, Tied};
-ghost use Rattle.columns.specs.Finishes.{lowered, ending};
+ghost use Rattle.columns.specs.Finishes.{stampOf, lowered, ending};
 ghost use Rattle.columns.specs.Made.{Room, Made};
 ghost use Rattle.columns.specs.Falls.{fallingOf, Turned};
 
@@ -51,30 +51,31 @@ pub fn rows_by_start(table: &[u64], register: u64, rows: &mut [u64]) -> usize
     m
 }
 
-// The doubled starts.
-fn starts(table: &[u64], rows: &[u64], out: &mut [u64])
-    requires { ⌜ length (now out) ≡ length (now rows) ⌝ }
-    requires { ⌜ Fit (now table) (now rows) ⌝ }
-    ensures { λ _. ⌜ now (out .exit) ≡ map (λ x. 2 * opAt (now (table .entry)) x .start) (now (rows .entry)) ⌝ }
+// One of the two stamps of an operation.
+enum Stamp {
+    Start,
+    Finish,
+}
+
+fn stamp_of(o: Op, which: Stamp) -> u64
+    ensures { λ r. ⌜ r ≡ stampOf which o ⌝ }
 {
-    let mut i: usize = 0;
-    while i < rows.len() {
-        let o = Op::at(table, rows[i] as usize);
-        out[i] = 2 * o.start;
-        i += 1;
+    match which {
+        Stamp::Start => o.start,
+        Stamp::Finish => o.finish,
     }
 }
 
-// The doubled finishes.
-fn ends(table: &[u64], rows: &[u64], out: &mut [u64])
+// The doubled starts, or finishes.
+fn doubled(table: &[u64], rows: &[u64], which: Stamp, out: &mut [u64])
     requires { ⌜ length (now out) ≡ length (now rows) ⌝ }
     requires { ⌜ Fit (now table) (now rows) ⌝ }
-    ensures { λ _. ⌜ now (out .exit) ≡ map (λ x. 2 * opAt (now (table .entry)) x .finish) (now (rows .entry)) ⌝ }
+    ensures { λ _. ⌜ now (out .exit) ≡ map (λ x. 2 * stampOf which (opAt (now (table .entry)) x)) (now (rows .entry)) ⌝ }
 {
     let mut i: usize = 0;
     while i < rows.len() {
-        let o = Op::at(table, rows[i] as usize);
-        out[i] = 2 * o.finish;
+        let one = stamp_of(Op::at(table, rows[i] as usize), which);
+        out[i] = 2 * one;
         i += 1;
     }
 }
@@ -135,7 +136,7 @@ fn finishes(table: &[u64], rows: &[u64], writer: &[u64], out: &mut [u64])
     requires { ⌜ Tied (now table) (now rows) (now writer) ⌝ }
     ensures { λ _. ⌜ now (out .exit) ≡ map (ending (now (table .entry)) (now (rows .entry))) (now (rows .entry)) ⌝ }
 {
-    ends(table, rows, out);
+    doubled(table, rows, Stamp::Finish, out);
     let mut j = writer.len();
     while j > 0 {
         j -= 1;
@@ -196,7 +197,7 @@ pub fn fill(
     requires { ⌜ ((register : ℕ) × Listed (now table) register (now rows)) ⌝ }
     ensures { λ _. ⌜ Made (now (table .entry)) (now (rows .entry)) (cols (now (start .exit)) (now (finish .exit)) (now (writer .exit)) (now (last .exit)) (now (prev .exit))) ⌝ }
 {
-    starts(table, rows, start);
+    doubled(table, rows, Stamp::Start, start);
     writers(table, rows, writer);
     finishes(table, rows, writer, finish);
     clear(last);

@@ -23,7 +23,8 @@ use Rattle.placing.specs.declared.Tried.{Tried}
 use Rattle.placing.specs.States.{left, laid, Holds}
 use Rattle.zones.specs.Zones.{zoneBy, Zoned, Inside}
 use Rattle.zones.proofs.ByLow.{by-low-length, zone-at}
-use Rattle.choice.specs.Offered.{Offered, Chosen, no-choice, chose}
+use Rattle.choice.specs.Gives.{Gives, no-order as none-chosen, an-order as one-chosen}
+use Rattle.choice.specs.Offered.{Offered, chosenBy}
 use Rattle.chunking.specs.Chunks.{lies, side}
 use Rattle.chunking.specs.Freed.{Freed}
 use Rattle.chunking.proofs.Sides.{side-write, side-in, side-inside, side-apart, sides-unlike, sides-length, inner-is}
@@ -117,9 +118,9 @@ module _ (C : Cols) (p : Sound C) (n : size C ≤ 1024) (late : List ℕ) (g : Z
           ∙ ap (λ (t : List Op). firstViable (listed t (ops H I)) (only (t ++ ops H I) H)) a
           ∙ ap (λ (x : List Op). firstViable (listed (ops H run) (ops H I)) x) c
 
-    pub chunk-made : (r : Tried) → Chosen C run I s r → Chunked C run top r
-    chunk-made r (no-choice q d) = no-order q (λ H o. made-is H o ∙ d H o)
-    chunk-made r (chose q x) =
+    pub chunk-made : (r : Tried) → Gives C (chosenBy run I s) s r → Chunked C run top r
+    chunk-made r (none-chosen q d) = no-order q (λ H o. made-is H o ∙ d H o)
+    chunk-made r (one-chosen q x) =
         an-order q
         (record {
           cells = x .holds .ready .cells;

@@ -9,6 +9,7 @@ use borrow.Author.Tests.{leb-true, leb-false, le-leb, lt-leb}
 use Rattle.lists.specs.Sorts.{insert, sort}
 use Rattle.lists.specs.Pairs.{Pairs, nil, cons}
 use Rattle.lists.proofs.Maps.{in-map}
+use Rattle.lists.proofs.Images.{insert-front, sort-sorted}
 use Rattle.lists.proofs.Pairs.{pairs-keep, pairs-map, pairs-image}
 use Rattle.lists.proofs.Sorts.{sort-ordered}
 use Rattle.history.specs.declared.Op.{Op}
@@ -17,17 +18,6 @@ use Rattle.methods.specs.Fzf.{Run, Item, chunk, dangling, backwardWrites, allRu
 use Rattle.witnesses.specs.Histories.{Prepared}
 use Rattle.viability.proofs.Runs.{all-runs}
 use Rattle.fzf.specs.Merge.{weave, merge}
-
-module _ {A : Type 0} (le : A → A → Bool) where
-  insert-front : (w : A) (l : List A) → ((y : A) → In y l → le w y ≡ true) → insert le w l ≡ w ∷ l
-  unfolding insert
-  insert-front w [] h = refl
-  insert-front w (x ∷ l) h = rw (h x (here refl))
-
-  sort-sorted : {l : List A} → Pairs (λ x y. le x y ≡ true) l → sort le l ≡ l
-  unfolding sort
-  sort-sorted nil = refl
-  sort-sorted (cons {x = x} {l = l} u t) = ap (insert le x) (sort-sorted t) ∙ insert-front x l u
 
 module _ (H : List Op) where
   abbrev lo : Op → ℕ

@@ -1,6 +1,6 @@
 -- Which item comes next: the chunk that begins at a, or the dangling cluster at j.
 -- Assumes nothing.
-use Prim.Native.Nat.{ℕ, zero, suc, _+_, _-_, _≤_, _<_}
+use Prim.Native.Nat.{ℕ, suc, _+_, _-_, _≤_, _<_}
 use mathlib.Core.Path.{_≡_, refl, ap, sym, _∙_}
 use mathlib.Core.Bool.{Bool, true, false, cond}
 use mathlib.Core.Logic.{_⊎_, inl, inr}
@@ -12,10 +12,9 @@ use lib.Seq.{drop-cons, length-take-le}
 use lib.Dec.{leb, ltb}
 use borrow.Author.Tests.{le-leb, lt-leb}
 use Rattle.lists.specs.Lists.{keep, put}
-use Rattle.lists.specs.Pairs.{Pairs, nil, cons}
 use Rattle.lists.proofs.Tests.{both}
 use Rattle.lists.proofs.Cover.{in-drop, in-take}
-use Rattle.lists.proofs.Images.{getD-in}
+use Rattle.lists.proofs.Images.{getD-in, pairs-take, pairs-from}
 use Rattle.history.specs.declared.Op.{Op}
 use Rattle.methods.specs.declared.Zone.{Zone}
 use Rattle.methods.specs.Zones.{order, low, zoneOf, cluster}
@@ -69,17 +68,6 @@ part-first : (l : List ℕ) (a e : ℕ) → a < e → e ≤ length l → partOf 
 part-first l a e h k =
     let q : e - a ≡ suc (e - (a + 1)) = omega arith in
     rw (q, drop-cons l a 0 (omega arith), add-one a) refl
-
-pairs-take : {R : ℕ → ℕ → Type 0} {l : List ℕ} → Pairs R l → (n : ℕ) → Pairs R (take n l)
-pairs-take nil zero = nil
-pairs-take nil (suc n) = nil
-pairs-take (cons u t) zero = nil
-pairs-take (cons {x = x} {l = l} u t) (suc n) = cons {x = x} {l = take n l} (λ y m. u y (in-take n l m)) (pairs-take t n)
-
-pairs-drop : {R : ℕ → ℕ → Type 0} {l : List ℕ} → Pairs R l → (n : ℕ) → Pairs R (drop n l)
-pairs-drop p zero = p
-pairs-drop nil (suc n) = nil
-pairs-drop (cons u t) (suc n) = pairs-drop t n
 
 part-length : (l : List ℕ) (a e : ℕ) → a < e → e ≤ length l → length (partOf l a e) ≤ length l
 part-length l a e h k = rw (length-take-le (e - a) (drop a l) (rw (length-drop) (omega arith))) (omega arith)
@@ -138,7 +126,7 @@ module _ (C : Cols) (p : Sound C) (late : List ℕ) (g : Zoned C late) where
           record {
             some = rw (part-first F a (span .end) h k) (omega arith);
             among = λ y m. in-drop a F (in-take (span .end - a) (drop a F) m);
-            apart = pairs-take (pairs-drop (side-apart (C .finish) late (C .writer) true) a) (span .end - a);
+            apart = pairs-take (pairs-from (side-apart (C .finish) late (C .writer) true) a) (span .end - a);
             few = part-length F a (span .end) h k;
           }
 

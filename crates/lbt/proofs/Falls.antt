@@ -22,13 +22,12 @@ use Rattle.methods.specs.Place.{startsBy, writes}
 use Rattle.methods.specs.Lbt.{endsLater, free, candidates}
 use Rattle.positions.specs.Places.{upto, and, latest}
 use Rattle.positions.specs.Columns.{Cols, size, wr, isOwn, endsBefore, byFinish, Sound, op, ops, Of}
-use Rattle.positions.proofs.Places.{below, upto-ext, upto-stop, in-upto, keep-upto}
+use Rattle.positions.proofs.Places.{below, upto-ext, upto-stop, in-upto, keep-upto, no-cond, cond-both}
 use Rattle.positions.proofs.Latest.{latest-le, latest-none, latest-at}
 use Rattle.positions.proofs.Ops.{keep-ops, in-ops, ops-in}
 use Rattle.positions.proofs.Columns.{size-is, start-is, finish-is, own-is}
 use Rattle.placing.specs.States.{isFree, left, Holds}
 use Rattle.placing.specs.declared.State.{State}
-use Rattle.placing.proofs.Moved.{no-cond}
 use Rattle.placing.proofs.Lates.{under-top, top-in}
 use Rattle.lbt.specs.Rounds.{openWrite}
 
@@ -73,10 +72,6 @@ module _ (C : Cols) where
     low-in : low ≤ size C
     low-in = omega (arith, latest-le (and P W) (size C))
 
-    split : (a b : Bool) → cond a b false ≡ true → (a ≡ true) × (b ≡ true)
-    split true b q = (refl, q)
-    split false b q = absurd (both q refl)
-
     module _ (H : List Op) (f : Of C H) where
       abbrev L : List Op
       L = ops H (left s)
@@ -103,7 +98,7 @@ module _ (C : Cols) where
           go (inr a) = absurd (both (i .3) (latest-none (and P W) (size C) (i .0) (omega arith) (omega (arith, i .2, h .ready .within))))
 
       newest-in : In (op H (low - 1)) (writes L)
-      newest-in = rw writes-ops (ops-in H _ _ (under-top C p s h (low - 1) (omega (arith, low-in)) (split _ _ at-low .0)) at-low)
+      newest-in = rw writes-ops (ops-in H _ _ (under-top C p s h (low - 1) (omega (arith, low-in)) (cond-both _ _ at-low .0)) at-low)
 
       is-free : (j : ℕ) → j < size C → free L (op H j) ≡ may C low j
       is-free j l = go _ (all? (startsBy (op H j)) (writes L))

@@ -10,9 +10,8 @@ use native.Mathlib.Numerals.{add-one}
 use lib.ListN.{getD}
 use borrow.Author.Tests.{eq-eqb, ne-eqb}
 use Rattle.positions.specs.Places.{latest}
-use Rattle.positions.proofs.Places.{below}
+use Rattle.positions.proofs.Places.{below, no-cond}
 use Rattle.placing.specs.States.{isFree}
-use Rattle.placing.proofs.Moved.{no-cond}
 use Rattle.lbt.specs.Rounds.{openWrite}
 
 -- where the test fails from m on, the last position is below m

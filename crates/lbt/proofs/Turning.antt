@@ -18,11 +18,10 @@ use Rattle.methods.specs.Place.{writeCount}
 use Rattle.methods.specs.Lbt.{Epoch, failed, placed, epoch, Round, lost, won, onemore, round}
 use Rattle.positions.specs.Places.{and}
 use Rattle.positions.specs.Columns.{Cols, size, wr, endsBefore, byFinish, Sound, op, ops, Of, Says}
-use Rattle.positions.proofs.Places.{below}
+use Rattle.positions.proofs.Places.{below, no-cond}
 use Rattle.placing.specs.States.{isFree, left, Holds, Whose}
 use Rattle.placing.specs.declared.State.{State}
 use Rattle.placing.specs.declared.Tried.{Tried}
-use Rattle.placing.proofs.Moved.{no-cond}
 use Rattle.lbt.specs.Epochs.{epochOf, Ran, loses, wins}
 use Rattle.lbt.specs.Rounds.{Lowest, Skipped, roundOf, tried, ended, Turned, is-lost, is-won, is-spent}
 use Rattle.lbt.proofs.Falls.{fin, may, falls-in, falls-ordered, candidates-at}

@@ -5,7 +5,7 @@ use mathlib.Core.Path.{_≡_, refl, ap, sym, _∙_}
 use mathlib.Core.Bool.{Bool, true, false, cond}
 use mathlib.Core.List.{List, [], _∷_, _++_, map, List·Memᴰ as In, List·Memᴰ·head as here, List·Memᴰ·tail as there}
 use native.Mathlib.Omega.{arith}
-use lib.ListN.{length, getD, drop}
+use lib.ListN.{length, getD, take, drop}
 use Rattle.lists.specs.Lists.{keep, put}
 use Rattle.lists.specs.Sorts.{insert, sort}
 use Rattle.lists.specs.Pairs.{Pairs, nil, cons}
@@ -51,6 +51,18 @@ module _ {A B : Type 0} (f : A → B) (le : B → B → Bool) where
   sort-map [] = refl
   sort-map (x ∷ l) = rw (sort-map l) (insert-map x (sort (λ x y. le (f x) (f y)) l))
 
+module _ {A : Type 0} (le : A → A → Bool) where
+  -- one that goes before all goes to the front, and a sorted list stays
+  pub insert-front : (w : A) (l : List A) → ((y : A) → In y l → le w y ≡ true) → insert le w l ≡ w ∷ l
+  unfolding insert
+  insert-front w [] h = refl
+  insert-front w (x ∷ l) h = rw (h x (here refl))
+
+  pub sort-sorted : {l : List A} → Pairs (λ x y. le x y ≡ true) l → sort le l ≡ l
+  unfolding sort
+  sort-sorted nil = refl
+  sort-sorted (cons {x = x} {l = l} u t) = ap (insert le x) (sort-sorted t) ∙ insert-front x l u
+
 module _ {A : Type 0} (le : A → A → Bool) (q : A → Bool) where
   -- an element that the test drops leaves no trace
   insert-out : (w : A) → q w ≡ false → (l : List A) → keep q (insert le w l) ≡ keep q l
@@ -62,12 +74,6 @@ module _ {A : Type 0} (le : A → A → Bool) (q : A → Bool) where
       go true ih = rw e refl
       go false ih = ap (put (q x) x) ih
 
-  -- one that goes before all goes to the front
-  insert-front : (w : A) (l : List A) → ((y : A) → In y l → le w y ≡ true) → insert le w l ≡ w ∷ l
-  unfolding insert
-  insert-front w [] h = refl
-  insert-front w (x ∷ l) h = rw (h x (here refl))
-
   module _ (trans : (x y z : A) → le x y ≡ true → le y z ≡ true → le x z ≡ true) where
     insert-in : (w : A) → q w ≡ true → {l : List A} → Pairs (λ x y. le x y ≡ true) l → keep q (insert le w l) ≡ insert le w (keep q l)
     unfolding insert keep put
@@ -77,7 +83,7 @@ module _ {A : Type 0} (le : A → A → Bool) (q : A → Bool) where
         go : (b : Bool) → le w x ≡ b → (c : Bool) → q x ≡ c → keep q (insert le w l) ≡ insert le w (keep q l)
             → keep q (cond b (w ∷ (x ∷ l)) (x ∷ insert le w l)) ≡ insert le w (put c x (keep q l))
         go true a true d ih = rw (e, d, a) refl
-        go true a false d ih = rw (e, d) (sym (insert-front w (keep q l) (λ y m. trans w x y a (u y (in-keep q l m .0)))))
+        go true a false d ih = rw (e, d) (sym (insert-front le w (keep q l) (λ y m. trans w x y a (u y (in-keep q l m .0)))))
         go false a true d ih = rw (d, a) (ap (λ (z : List A). x ∷ z) ih)
         go false a false d ih = rw d ih
 
@@ -137,3 +143,19 @@ module _ {A : Type 0} where
   pairs-at d (cons {x = x} {l = l} u p) i zero h g = absurd (omega arith)
   pairs-at d (cons {x = x} {l = l} u p) zero (suc k) h g = u (getD l k d) (getD-in l d k (omega arith))
   pairs-at d (cons {x = x} {l = l} u p) (suc i) (suc k) h g = pairs-at d p i k (omega arith) (omega arith)
+
+  -- the first n of a list, and those behind them
+  pub pairs-take : {R : A → A → Type 0} {l : List A} → Pairs R l → (n : ℕ) → Pairs R (take n l)
+  pairs-take nil zero = nil
+  pairs-take nil (suc n) = nil
+  pairs-take (cons u t) zero = nil
+  pairs-take (cons {x = x} {l = l} u t) (suc n) = cons {x = x} {l = take n l} (λ y m. u y (among n l m)) (pairs-take t n)
+    where
+      among : (n : ℕ) (l : List A) {y : A} → In y (take n l) → In y l
+      among (suc n) (x ∷ l) (here e) = here e
+      among (suc n) (x ∷ l) (there m) = there (among n l m)
+
+  pub pairs-from : {R : A → A → Type 0} {l : List A} → Pairs R l → (n : ℕ) → Pairs R (drop n l)
+  pairs-from p zero = p
+  pairs-from nil (suc n) = nil
+  pairs-from (cons u t) (suc n) = pairs-from t n

@@ -17,30 +17,30 @@ pub begun-laid : (n : ℕ) → laid (begun n) ≡ []
 unfolding begun
 begun-laid n = drop-of-length-le (replicate 1024 0) {i = 1024} (omega (arith, length-replicate {A = ℕ} 1024 0))
 
+pub begun-free : (n j : ℕ) → j < 1024 → isFree (begun n .placed) j ≡ true
+unfolding begun
+begun-free n j l = rw (getD-replicate {A = ℕ} 1024 j 0 0 l)
+
+pub begun-ready : (n : ℕ) → n ≤ 1024 → Ready n (begun n)
+unfolding begun
+begun-ready n h =
+    record {
+      size = h;
+      within = omega arith;
+      marks = length-replicate {A = ℕ} 1024 0;
+      cells = length-replicate {A = ℕ} 1024 0;
+      high = omega arith;
+      room = omega (arith, upto-length (isFree (replicate 1024 0)) n);
+      above = λ j a b. absurd (omega arith);
+    }
+
 module _ (C : Cols) (p : Sound C) (n : size C ≤ 1024) where
-  pub begun-free : (j : ℕ) → j < size C → isFree (begun (size C) .placed) j ≡ true
-  unfolding begun
-  begun-free j l = rw (getD-replicate {A = ℕ} 1024 j 0 0 (omega arith))
-
-  begun-ready : Ready (size C) (begun (size C))
-  unfolding begun
-  begun-ready =
-      record {
-        size = n;
-        within = omega arith;
-        marks = length-replicate {A = ℕ} 1024 0;
-        cells = length-replicate {A = ℕ} 1024 0;
-        high = omega arith;
-        room = omega (arith, upto-length (isFree (replicate 1024 0)) (size C));
-        above = λ j a b. absurd (omega arith);
-      }
-
   pub begun-holds : Holds C (begun (size C))
-  begun-holds = record { ready = begun-ready; closed = λ j l f. begun-free (wr C j) (p .shape .writers j l) }
+  begun-holds = record { ready = begun-ready (size C) n; closed = λ j l f. begun-free (size C) (wr C j) (omega (arith, p .shape .writers j l)) }
 
   pub begun-left : Says C (λ H. ops H (left (begun (size C))) ≡ H)
   unfolding begun
   begun-left H f =
-      ops-all H (isFree (replicate 1024 0)) (size C) (omega (arith, size-is f)) begun-free
+      ops-all H (isFree (replicate 1024 0)) (size C) (omega (arith, size-is f)) (λ j l. begun-free (size C) j (omega arith))
       ∙ ap (λ (k : ℕ). take k H) (size-is f)
       ∙ take-all (length H) H (omega arith)

@@ -13,12 +13,12 @@ use borrow.Author.Tests.{eqb-true, eqb-false, eq-eqb, ne-eqb}
 use Rattle.lists.proofs.Tests.{test}
 use Rattle.positions.specs.Places.{upto, and, latest}
 use Rattle.positions.specs.Columns.{mine, readOf, Linked}
-use Rattle.positions.proofs.Places.{below, upto-parts, upto-stop, upto-some}
+use Rattle.positions.proofs.Places.{below, upto-parts, upto-stop, upto-some, no-cond}
 use Rattle.positions.proofs.Latest.{latest-le, latest-none, latest-at}
 use Rattle.placing.specs.States.{isFree, laid, Ready, Whose}
 use Rattle.placing.specs.Owned.{Mine, Owned}
 use Rattle.placing.specs.declared.State.{State}
-use Rattle.placing.proofs.Moved.{no-cond, Moved, moved-none, moved-down, moved-push, laid-push}
+use Rattle.placing.proofs.Moved.{Moved, moved-none, moved-down, moved-push, laid-push}
 
 -- the invariant, at the link k: the reads of w from k on are moved, and k is 0 or one more than a read of w
 pub record Linking (writer : List ℕ) (w k : ℕ) (s t : State) : Type 0 where

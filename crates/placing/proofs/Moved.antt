@@ -3,7 +3,7 @@
 -- Assumes nothing.
 use Prim.Native.Nat.{ℕ, suc, _+_, _-_, _≤_, _<_}
 use mathlib.Core.Path.{_≡_, refl, ap, sym, _∙_}
-use mathlib.Core.Bool.{Bool, true, false, cond}
+use mathlib.Core.Bool.{Bool, true, false}
 use mathlib.Core.Logic.{_⊎_, inl, inr, _≢_}
 use mathlib.Core.List.{List, [], _∷_, _++_}
 use native.Mathlib.Omega.{arith}
@@ -25,11 +25,6 @@ pub record Moved (L : ℕ → Bool) (m k : ℕ) (s : State) (p o : List ℕ) (a 
   pub gone : (j : ℕ) → k ≤ j → j < m → L j ≡ true → isFree p j ≡ false
   pub kept : (j : ℕ) → (j < k) ⊎ (L j ≡ false) → getD p j 0 ≡ getD (s .placed) j 0
   pub order : upto L k ++ drop a o ≡ upto L m ++ drop (s .at) (s .order)
-
--- a test that fails makes both fail
-pub no-cond : (b : Bool) → cond b false false ≡ false
-no-cond true = refl
-no-cond false = refl
 
 -- one operation to the front of what is laid
 pub laid-push : (o : List ℕ) (a i : ℕ) → 0 < a → a ≤ length o → drop (a - 1) (set o (a - 1) i) ≡ i ∷ drop a o

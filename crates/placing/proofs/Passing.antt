@@ -12,12 +12,12 @@ use borrow.Author.Tests.{ltb-true, lt-ltb, le-ltb, eqb-true, eqb-false, eq-eqb, 
 use Rattle.lists.proofs.Tests.{both}
 use Rattle.positions.specs.Places.{upto, and}
 use Rattle.positions.specs.Columns.{Shaped}
-use Rattle.positions.proofs.Places.{below, upto-empty, upto-parts}
+use Rattle.positions.proofs.Places.{below, upto-empty, upto-parts, no-cond}
 use Rattle.placing.specs.Rules.{clash, ask}
 use Rattle.placing.specs.States.{isFree, Ready}
 use Rattle.placing.specs.Scanned.{late, Late, Met, Asks, Kinds, Asking, Broken, a-write, two, Passed, Scanned, passed}
 use Rattle.placing.specs.declared.State.{State}
-use Rattle.placing.proofs.Moved.{no-cond, Moved, moved-none, moved-down, moved-push}
+use Rattle.placing.proofs.Moved.{Moved, moved-none, moved-down, moved-push}
 
 -- what a clash is, and what the write that is asked for says
 pub data Clashes (i v w asked : ℕ) : Type 0 where

@@ -17,7 +17,7 @@ use Rattle.methods.specs.Prepared.{noWrite, sameValue}
 use Rattle.methods.specs.Place.{otherValue, startsAfter, startsBy, later, rest, reads, segment}
 use Rattle.positions.specs.Places.{upto, and}
 use Rattle.positions.specs.Columns.{Cols, size, wr, isRead, mine, Sound, op, ops, Of}
-use Rattle.positions.proofs.Places.{below, upto-ext, upto-stop, upto-parts, upto-some}
+use Rattle.positions.proofs.Places.{below, upto-ext, upto-stop, upto-parts, upto-some, no-cond, cond-assoc, cond-both}
 use Rattle.positions.proofs.Ops.{keep-ops}
 use Rattle.positions.proofs.Columns.{size-is, start-is, finish-is, own-is, same-is}
 use Rattle.placing.specs.States.{isFree, left, laid, Ready, Holds, Whose}
@@ -26,15 +26,6 @@ use Rattle.placing.specs.Owned.{Mine, Owned}
 use Rattle.placing.specs.Stepped.{ending, Stepped, fails, goes}
 use Rattle.placing.specs.declared.State.{State}
 use Rattle.placing.specs.declared.Tried.{Tried}
-use Rattle.placing.proofs.Moved.{no-cond}
-
-cond-assoc : (a b c : Bool) → cond a (cond b c false) false ≡ cond (cond a b false) c false
-cond-assoc true b c = refl
-cond-assoc false b c = refl
-
-parts : (a b : Bool) → cond a b false ≡ true → (a ≡ true) × (b ≡ true)
-parts true b e = (refl, e)
-parts false b e = absurd (both e refl)
 
 module _ (C : Cols) (p : Sound C) (w : ℕ) (s : State) (h : Holds C s) (k : Whose (C .writer) s w) where
   abbrev bound : ℕ
@@ -186,11 +177,11 @@ module _ (C : Cols) (p : Sound C) (w : ℕ) (s : State) (h : Holds C s) (k : Who
       end-write v l e q d = end-free v l ∙ rw (e, not-late v l e q, q, ne-eqb v w d)
 
       end-holds : Holds C r
-      end-holds = record { ready = end-ready; closed = λ j l e. go j l (parts _ _ (sym (end-free j l) ∙ e)) }
+      end-holds = record { ready = end-ready; closed = λ j l e. go j l (cond-both _ _ (sym (end-free j l) ∙ e)) }
         where
           go : (j : ℕ) → j < size C → (cond (P j) (notLate j) false ≡ true) × (notMine j ≡ true) → isFree (r .placed) (wr C j) ≡ true
           go j l (a, b) =
-              end-write (wr C j) (p .shape .writers j l) (h .closed j l (parts _ _ a .0)) (p .writes j l) (eqb-false _ _ (not-true _ b))
+              end-write (wr C j) (p .shape .writers j l) (h .closed j l (cond-both _ _ a .0)) (p .writes j l) (eqb-false _ _ (not-true _ b))
 
       -- the tests of the definitions, by position
       module _ (H : List Op) (f : Of C H) where
@@ -268,7 +259,7 @@ module _ (C : Cols) (p : Sound C) (w : ℕ) (s : State) (h : Holds C s) (k : Who
       (record {
         holds = end-holds C p w s h k (q .state) (q .asked) g r o;
         less = omega (arith, o .high, lower);
-        shrinks = λ j l e. parts _ _ (parts _ _ (sym (end-free C p w s h k (q .state) (q .asked) g r o j l) ∙ e) .0) .0;
+        shrinks = λ j l e. cond-both _ _ (cond-both _ _ (sym (end-free C p w s h k (q .state) (q .asked) g r o j l) ∙ e) .0) .0;
         keeps =
             λ v d y. record {
               inside = y .inside;

@@ -44,6 +44,19 @@ below (suc m) (suc n) = go (below m n)
     go (inl h) = inl (omega arith)
     go (inr h) = inr (omega arith)
 
+-- a conjunction of tests, as `and` writes it
+pub no-cond : (b : Bool) → cond b false false ≡ false
+no-cond true = refl
+no-cond false = refl
+
+pub cond-assoc : (a b c : Bool) → cond a (cond b c false) false ≡ cond (cond a b false) c false
+cond-assoc true b c = refl
+cond-assoc false b c = refl
+
+pub cond-both : (a b : Bool) → cond a b false ≡ true → (a ≡ true) × (b ≡ true)
+cond-both true b e = (refl, e)
+cond-both false b e = absurd (both e refl)
+
 pub upto-ext : {P Q : ℕ → Bool} (n : ℕ) → ((j : ℕ) → j < n → P j ≡ Q j) → upto P n ≡ upto Q n
 unfolding upto
 upto-ext zero h = refl

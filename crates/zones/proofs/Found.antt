@@ -5,7 +5,7 @@ use mathlib.Core.Path.{_≡_, refl, ap, sym, _∙_}
 use mathlib.Core.Bool.{true, false}
 use mathlib.Core.List.{List, [], _∷_, _++_, flatMap, append-nil, List·Memᴰ as In, List·Memᴰ·head as here, List·Memᴰ·tail as there}
 use native.Mathlib.Omega.{arith}
-use lib.ListN.{length, getD, take, drop, replicate, length-replicate, getD-replicate, drop-of-length-le, length-drop}
+use lib.ListN.{length, getD, take, drop, length-drop}
 use lib.Seq.{take-all}
 use Rattle.lists.proofs.Images.{map-append, getD-in}
 use Rattle.history.specs.declared.Op.{Op}
@@ -13,10 +13,10 @@ use Rattle.methods.specs.Zones.{order, cluster, isOne, inOrder, zones}
 use Rattle.methods.specs.Mark.{untried}
 use Rattle.positions.specs.Places.{upto, Once}
 use Rattle.positions.specs.Columns.{Cols, size, readOf, Sound, op, ops, Of}
-use Rattle.positions.proofs.Places.{upto-length}
 use Rattle.positions.proofs.Once.{pairs-once}
 use Rattle.placing.specs.declared.State.{State}
-use Rattle.placing.specs.States.{isFree, laid, begun, Ready}
+use Rattle.placing.specs.States.{laid, begun, Ready}
+use Rattle.placing.proofs.Begun.{begun-laid, begun-free, begun-ready}
 use Rattle.placing.specs.Searched.{Searched, is-stale, is-fresh}
 use Rattle.zones.specs.Zones.{Zoned, writesAt, byLow}
 use Rattle.zones.specs.Pass.{pass, nowhere, zonesBy}
@@ -24,28 +24,6 @@ use Rattle.zones.specs.Lay.{clusterAt, Whole, Lays}
 use Rattle.zones.proofs.Zone.{cluster-at}
 use Rattle.zones.proofs.ByLow.{by-low-write, by-low-in, by-low-apart, by-low, write-of}
 use Rattle.zones.proofs.Decided.{decided}
-
--- The state before anything is placed.
-begun-free : (n j : ℕ) → j < 1024 → isFree (begun n .placed) j ≡ true
-unfolding begun
-begun-free n j l = rw (getD-replicate {A = ℕ} 1024 j 0 0 l)
-
-pub begun-laid : (n : ℕ) → laid (begun n) ≡ []
-unfolding begun
-begun-laid n = drop-of-length-le (replicate 1024 0) {i = 1024} (omega (arith, length-replicate {A = ℕ} 1024 0))
-
-pub begun-ready : (n : ℕ) → n ≤ 1024 → Ready n (begun n)
-unfolding begun
-begun-ready n h =
-    record {
-      size = h;
-      within = omega arith;
-      marks = length-replicate {A = ℕ} 1024 0;
-      cells = length-replicate {A = ℕ} 1024 0;
-      high = omega arith;
-      room = omega (arith, upto-length (isFree (replicate 1024 0)) n);
-      above = λ j a b. absurd (omega arith);
-    }
 
 -- writes whose clusters are not placed in a state that has just begun
 pub begun-whole : (writer : List ℕ) (n : ℕ) → length writer ≤ 1024 → (list : List ℕ) → ((w : ℕ) → In w list → (w < length writer) × (getD writer w 0 ≡ w)) →

@@ -2,7 +2,7 @@
 -- Assumes nothing.
 use Prim.Native.Nat.{ℕ, suc, _+_, _-_, _≤_, _<_}
 use mathlib.Core.Path.{_≡_, refl, ap, sym, _∙_}
-use mathlib.Core.Bool.{Bool, true, false, not, cond}
+use mathlib.Core.Bool.{Bool, true, false, not}
 use mathlib.Core.Logic.{_⊎_, inl, inr}
 use mathlib.Core.List.{List, _∷_, _++_, flatMap, append-assoc}
 use native.Mathlib.Omega.{arith}
@@ -12,7 +12,7 @@ use borrow.Author.Tests.{eqb-true, eq-eqb, ne-eqb}
 use Rattle.lists.proofs.Tests.{both}
 use Rattle.positions.specs.Places.{upto, and, Once}
 use Rattle.positions.specs.Columns.{mine, isRead, readOf}
-use Rattle.positions.proofs.Places.{below, upto-ext, upto-stop, upto-parts, upto-some}
+use Rattle.positions.proofs.Places.{below, upto-ext, upto-stop, upto-parts, upto-some, no-cond, cond-assoc}
 use Rattle.placing.specs.declared.State.{State}
 use Rattle.placing.specs.States.{isFree, laid, Ready, Whose}
 use Rattle.placing.specs.Owned.{Mine, Owned}
@@ -39,14 +39,10 @@ module _ (writer : List ℕ) (w : ℕ) (s : State) (h : Ready (length writer) s)
         ap length same,
       )
     where
-      assoc : (a b c : Bool) → cond a (cond b c false) false ≡ cond (cond a b false) c false
-      assoc true b c = refl
-      assoc false b c = refl
-
       same : upto (Mine writer w s) (length writer) ≡ upto (and (and P (mine writer w)) (isRead writer)) (s .top)
       same =
           upto-stop (Mine writer w s) (s .top) (length writer) (h .within) (λ j a b. rw (h .above j a b))
-          ∙ upto-ext (s .top) (λ j l. assoc (P j) (mine writer w j) (isRead writer j))
+          ∙ upto-ext (s .top) (λ j l. cond-assoc (P j) (mine writer w j) (isRead writer j))
 
   stays : upto (isFree (r .placed)) (r .top) ≡ upto (and P (λ j. not (mine writer w j))) (s .top)
   stays = rw (o .top) (upto-ext (s .top) (λ j l. o .free j (omega (arith, h .within))))
@@ -124,10 +120,6 @@ module _ (writer list : List ℕ) (s : State) where
         all-mine : upto (Mine writer w t) (length writer) ≡ upto (readOf writer w) (length writer)
         all-mine = upto-ext (length writer) (λ j l. go j l (mine writer w j) refl)
           where
-            none : (b : Bool) → cond b false false ≡ false
-            none true = refl
-            none false = refl
-
             go : (j : ℕ) → j < length writer → (b : Bool) → mine writer w j ≡ b → Mine writer w t j ≡ readOf writer w j
             go j l true e = rw (g .whole .free (i - 1) j (omega arith) l (eqb-true (getD writer j 0) w e))
-            go j l false e = rw e (none (isFree (t .placed) j))
+            go j l false e = rw e (no-cond (isFree (t .placed) j))

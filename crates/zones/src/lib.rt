@@ -16,7 +16,7 @@ ghost use Rattle.zones.specs.Zones.{lastBy, Ends, Lates, zoneBy, Zoned, 
 ghost use Rattle.zones.specs.Lay.{Whole, Lays};
 ghost use Rattle.zones.specs.Pass.{meets, newer, pass, nowhere, zonesBy};
 
-fn larger(a: u64, b: u64) -> u64
+pub fn larger(a: u64, b: u64) -> u64
     ensures { λ r. ⌜ r ≡ max a b ⌝ }
 {
     if a <= b { b } else { a }

@@ -1,3 +1,4 @@
+-- The loop goes from run to run: whether w lies inside none is what the runs from here on say (`Hanging`).
 use native.Mathlib.Omega.{arith}
 use Prim.Native.Nat.{_-_}
 use mathlib.Core.Path.{ap, sym, _∙_}

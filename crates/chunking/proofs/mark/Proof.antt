@@ -1,3 +1,4 @@
+-- The loop has marked the first i of the list (`Marking`).
 use Rattle.chunking.proofs.Marking.{Marking, mark-none, mark-on, mark-end}
 use native.Mathlib.Omega.{arith}
 use Prim.Native.Nat.{_-_}

@@ -1,3 +1,4 @@
+-- The loop has freed the operations below j whose writes are marked, and shut the others (`Clearing`).
 use Rattle.chunking.proofs.Clearing.{Clearing, free-none, free-on, free-end}
 use native.Mathlib.Omega.{arith}
 use Prim.Native.Nat.{_-_}

@@ -1,3 +1,4 @@
+-- The loop copies those of the first i that face as asked to the front (`Keeping`).
 use Rattle.chunking.specs.Chunks.{faces}
 use Rattle.chunking.proofs.Keeping.{Keeping, keep-none, keep-on, keep-out, keep-end}
 use native.Mathlib.Omega.{arith}

@@ -1,3 +1,4 @@
+-- The loop extends the run: where it ends and its top are what the writes from here on say (`Running`).
 use Rattle.methods.specs.declared.Zone.{Zone}
 use Rattle.methods.specs.Zones.{high}
 use Rattle.chunking.proofs.Running.{Running, run-none, run-end, run-stop, run-on}

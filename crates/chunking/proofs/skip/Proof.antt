@@ -1,3 +1,4 @@
+-- The loop skips what does not dangle: the dangling ones from j on are those from i on (`Skipping`).
 use native.Mathlib.Omega.{arith}
 use Prim.Native.Nat.{_-_}
 use mathlib.Core.Path.{sym, _∙_}

@@ -5,8 +5,8 @@ use Rattle.columns.proofs.Made.{made, tied-by, link-asks}
 use Rattle.columns.proofs.fill.Statement.{statement}
 use Rattle.columns.proofs.fill.Tie as tie
 
-starts-requires : tie.Need-starts-requires
-starts-requires c κs = let p = c .before .before .before .before .before .before .before .before .pre in (p .0 .room-start, listed-fit (p .1 .1))
+doubled-requires : tie.Need-doubled-requires
+doubled-requires c κs = let p = c .before .before .before .before .before .before .before .before .pre in (p .0 .room-start, listed-fit (p .1 .1))
 
 writers-requires : tie.Need-writers-requires
 writers-requires c κs = let p = c .before .before .before .before .before .before .before .before .before .before .before .before .pre in (p .0 .room-writer, listed-fit (p .1 .1))
@@ -41,7 +41,7 @@ same-length-5 c = search needs
 
 returns : tie.Need-returns
 returns c =
-    made _ _ _ _ _ _ _ (c .before .before .before .before .before .before .before .before .before .before .before .before .before .before .before .before .before .before .before .before .before .before .before .starts .ensures)
+    made _ _ _ _ _ _ _ (c .before .before .before .before .before .before .before .before .before .before .before .before .before .before .before .before .before .before .before .before .before .before .before .doubled .ensures)
     (c .before .before .before .before .before .before .before .before .before .before .before .before .before .before .finishes .ensures)
     (c .before .before .before .before .before .before .before .before .before .before .before .before .before .before .before .before .before .before .before .writers .ensures)
     (c .before .before .before .before .link .ensures)
@@ -50,7 +50,7 @@ pub fill-spec : {M : Type 1} → statement M
 fill-spec =
     tie.close
     (tie.spec
-    starts-requires
+    doubled-requires
     writers-requires
     finishes-requires
     clear-requires

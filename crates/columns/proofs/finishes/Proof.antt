@@ -12,15 +12,15 @@ Inv-loop table rows writer out₀ j₀ out j = Cutting table rows j out
 abbrev μ-loop : tie.MeasureT-loop
 μ-loop table rows writer out₀ j₀ out j = j
 
-ends-requires : tie.Need-ends-requires Inv-loop μ-loop
-ends-requires c κs =
+doubled-requires : tie.Need-doubled-requires Inv-loop μ-loop
+doubled-requires c κs =
     let p = c .before .before .before .before .before .pre in
     (p .0, p .1 .0)
 
 loop-holds : tie.Need-loop-holds Inv-loop μ-loop
 loop-holds c =
     let p = c .before .before .before .before .before .before .before .before .pre in
-    cut-none _ _ _ _ (p .1 .1 .long) (c .before .before .ends .ensures)
+    cut-none _ _ _ _ (p .1 .1 .long) (c .before .before .doubled .ensures)
 
 sub-j : tie.Need-sub-j Inv-loop μ-loop
 sub-j c = omega arith
@@ -96,7 +96,7 @@ finishes-spec =
     (tie.spec
     Inv-loop
     μ-loop
-    ends-requires
+    doubled-requires
     loop-holds
     sub-j
     mul-w

@@ -1,3 +1,4 @@
+-- The loop copies the part place by place behind what was written (`Appending`).
 use Prim.Native.Nat.{_-_}
 use native.Mathlib.Omega.{arith}
 use Rattle.fzf.proofs.Appending.{Appending, append-none, append-end, append-fits, append-on}

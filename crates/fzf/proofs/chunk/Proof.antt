@@ -1,4 +1,4 @@
-use mathlib.Core.Path.{sym, ap, _∙_}
+use mathlib.Core.Path.{ap, _∙_}
 use mathlib.Core.Bool.{false}
 use native.Mathlib.Omega.{arith}
 use lib.ListN.{length}
@@ -9,12 +9,6 @@ use Rattle.fzf.proofs.Chunks.{late-long, sides-inside, sides-few, run-i
 use borrow.Author.Needs.{needs}
 use Rattle.fzf.proofs.chunk.Statement.{statement}
 use Rattle.fzf.proofs.chunk.Tie as tie
-use Rattle.fzf.proofs.chunk.Reads as reads
-use Rattle.fzf.proofs.chunk.Lts as lts
-use Rattle.choice.proofs.choose.Reads as choose-reads
-use Rattle.chunking.proofs.free.Reads as free-reads
-use Rattle.chunking.proofs.inner.Reads as inner-reads
-use Rattle.fzf.proofs.low_end.Reads as low-end-reads
 
 -- src/lib.rt:55:40
 shared-slice-read-low-end : tie.Need-shared-slice-read-low-end

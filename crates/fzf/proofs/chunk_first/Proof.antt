@@ -4,9 +4,6 @@ use Rattle.fzf.specs.Next.{chunkFirst}
 use borrow.Author.Needs.{needs}
 use Rattle.fzf.proofs.chunk_first.Statement.{statement}
 use Rattle.fzf.proofs.chunk_first.Tie as tie
-use Rattle.fzf.proofs.chunk_first.Reads as reads
-use Rattle.fzf.proofs.chunk_first.Lts as lts
-use Rattle.fzf.proofs.low_end.Reads as low-end-reads
 
 -- src/lib.rt:77:9
 returns : tie.Need-returns

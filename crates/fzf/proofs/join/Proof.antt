@@ -1,3 +1,4 @@
+-- The loop joins item by item: those done have their orders in the list, and those that remain begin at a and j (`Joining`). What is left of the two lists falls.
 use Rattle.zones.proofs.Found.{whole-order}
 use borrow.Author.Needs.{needs}
 use Prim.Native.Nat.{ℕ, _+_, _-_}

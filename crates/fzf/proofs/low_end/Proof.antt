@@ -4,10 +4,6 @@ use Rattle.methods.specs.Zones.{low}
 use borrow.Author.Needs.{needs}
 use Rattle.fzf.proofs.low_end.Statement.{statement}
 use Rattle.fzf.proofs.low_end.Tie as tie
-use Rattle.fzf.proofs.low_end.Reads as reads
-use Rattle.fzf.proofs.low_end.Lts as lts
-use Rattle.methods.proofs.Zone.low.Reads as low-reads
-use Rattle.zones.proofs.zone_of.Reads as zone-of-reads
 
 -- src/lib.rt:33:5
 zone-of-requires : tie.Need-zone-of-requires

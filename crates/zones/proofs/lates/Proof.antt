@@ -1,3 +1,4 @@
+-- The loop writes the largest start of each cluster whose write is below i (`Lates`).
 use Prim.Native.Nat.{_-_, _≤_}
 use mathlib.Core.Path.{_≡_, sym, _∙_}
 use native.Mathlib.Omega.{arith}

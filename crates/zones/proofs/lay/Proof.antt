@@ -1,3 +1,4 @@
+-- The loop lays the clusters from the last of the list on; those before i are not placed yet (`Laying`).
 use native.Mathlib.Omega.{arith}
 use Rattle.zones.proofs.Laying.{Laying, lay-none, lay-end, lay-whose, lay-on}
 use Rattle.zones.proofs.lay.Statement.{statement}

@@ -1,3 +1,4 @@
+-- The loop lists the writes below i, and has written their low ends (`Listing`).
 use Prim.Native.Nat.{_-_}
 use mathlib.Core.Path.{_∙_, ap}
 use native.Mathlib.Omega.{arith}

@@ -1,3 +1,4 @@
+-- The loop passes over the zones: whether none clashes is what those from here on say (`Passing`).
 use mathlib.Core.Path.{sym, _∙_}
 use borrow.Author.Needs.{needs}
 use Rattle.zones.proofs.Pass.{Passing, pass-none, pass-end, pass-hit, pass-on}
