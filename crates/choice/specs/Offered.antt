@@ -6,6 +6,7 @@ use mathlib.Core.Bool.{Bool, true, false, not, cond}
 use mathlib.Core.List.{List, [], _∷_, _++_, map, List·Memᴰ as In}
 use lib.ListN.{length, getD}
 use lib.Dec.{eqb, ltb}
+use Rattle.history.specs.Table.{largestCount}
 use Rattle.lists.specs.Pairs.{Pairs}
 use Rattle.history.specs.declared.Op.{Op}
 use Rattle.methods.specs.Zones.{Decision}
@@ -55,7 +56,7 @@ pub record Offered (writer t b : List ℕ) (s : State) : Type 0 where
   pub forth : (w : ℕ) → In w t → Whose writer s w
   pub inner : (w : ℕ) → In w b → Whose writer s w
   pub apart : Pairs Unlike (t ++ b)
-  pub room : length t + length b ≤ 1024
+  pub room : length t + length b ≤ largestCount
 
 -- what the definition says of some orders, and of all those of figure 4, over what is left
 abbrev pub triedBy : List (List ℕ) → State → List Op → Decision

@@ -6,6 +6,7 @@ ghost use mathlib.Core.Path.{_≡_};
 ghost use mathlib.Core.List.{List, [], _∷_, _++_};
 ghost use Prim.Native.Nat.{ℕ, _+_, _≤_, _<_};
 ghost use lib.ListN.{length, getD, take};
+ghost use Rattle.history.specs.Table.{largestCount};
 ghost use Rattle.positions.specs.Columns.{cols, Sound};
 ghost use Rattle.placing.specs.States.{Holds};
 ghost use Rattle.choice.specs.Gives.{Gives};
@@ -14,7 +15,7 @@ ghost use Rattle.choice.specs.Offered.{backward, swapIf, turned, endAt, 
 
 // Whether the write that is asked for, if any, is the one at i.
 fn follows(turn: &[u64], i: usize, asked: u64) -> bool
-    requires { ⌜ ((j : ℕ) → j < length (now turn) → getD (now turn) j 0 < 1024) ⌝ }
+    requires { ⌜ ((j : ℕ) → j < length (now turn) → getD (now turn) j 0 < largestCount) ⌝ }
     ensures { λ r. ⌜ r ≡ follows (now (turn .entry)) i asked ⌝ }
 {
     if asked == 0 {

@@ -6,6 +6,7 @@ use mathlib.Core.Bool.{Bool, not, cond}
 use mathlib.Core.List.{List}
 use lib.ListN.{length, getD}
 use lib.Dec.{eqb}
+use Rattle.history.specs.Table.{largestCount}
 use Rattle.lists.specs.Lists.{all}
 use Rattle.positions.specs.Places.{and}
 use Rattle.placing.specs.declared.State.{State}
@@ -25,7 +26,7 @@ shut m = cond (eqb m 0) 1 0
 
 -- operations are free where their writes are marked
 pub record Opened (writer marks : List ℕ) (s r : State) : Type 0 where
-  pub sized : length (r .placed) ≡ 1024
+  pub sized : length (r .placed) ≡ largestCount
   pub order : r .order ≡ s .order
   pub at : r .at ≡ s .at
   pub top : r .top ≡ length writer
@@ -33,8 +34,8 @@ pub record Opened (writer marks : List ℕ) (s r : State) : Type 0 where
 
 -- THE CONTRACT of the freeing: nothing is laid, and the clusters of the listed writes alone are to be placed
 pub record Freed (writer list : List ℕ) (r : State) : Type 0 where
-  pub sized : length (r .placed) ≡ 1024
-  pub cells : length (r .order) ≡ 1024
-  pub at : r .at ≡ 1024
+  pub sized : length (r .placed) ≡ largestCount
+  pub cells : length (r .order) ≡ largestCount
+  pub at : r .at ≡ largestCount
   pub top : r .top ≡ length writer
   pub free : (j : ℕ) → j < length writer → isFree (r .placed) j ≡ not (unlisted list (getD writer j 0))

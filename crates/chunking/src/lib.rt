@@ -5,6 +5,7 @@ ghost use mathlib.Core.Path.{_≡_};
 ghost use mathlib.Core.List.{_++_};
 ghost use Prim.Native.Nat.{ℕ, _≤_, _<_};
 ghost use lib.ListN.{length, getD, take};
+ghost use Rattle.history.specs.Table.{largestCount};
 ghost use Rattle.lists.specs.Lists.{keep};
 ghost use Rattle.positions.specs.Columns.{Linked};
 ghost use Rattle.placing.specs.States.{laid};
@@ -179,8 +180,8 @@ fn shut(m: u8) -> u8
 
 // The state with the clusters of the marked writes alone to be placed.
 fn only(writer: &[u64], marks: &[u8], s: State) -> State
-    requires { ⌜ length (now writer) ≤ 1024 ⌝ }
-    requires { ⌜ length (s .placed) ≡ 1024 ⌝ }
+    requires { ⌜ length (now writer) ≤ largestCount ⌝ }
+    requires { ⌜ length (s .placed) ≡ largestCount ⌝ }
     requires { ⌜ ((j : ℕ) → j < length (now writer) → getD (now writer) j 0 < length (now marks)) ⌝ }
     ensures { λ r. ⌜ Opened (now (writer .entry)) (now (marks .entry)) s r ⌝ }
 {
@@ -199,10 +200,10 @@ fn only(writer: &[u64], marks: &[u8], s: State) -> State
 
 // The state with the clusters of a run and of the backward zones inside it alone to be placed.
 pub fn free(writer: &[u64], run: &[u64], inner: &[u64]) -> State
-    requires { ⌜ length (now writer) ≤ 1024 ⌝ }
-    requires { ⌜ ((j : ℕ) → j < length (now writer) → getD (now writer) j 0 < 1024) ⌝ }
-    requires { ⌜ ((i : ℕ) → i < length (now run) → getD (now run) i 0 < 1024) ⌝ }
-    requires { ⌜ ((i : ℕ) → i < length (now inner) → getD (now inner) i 0 < 1024) ⌝ }
+    requires { ⌜ length (now writer) ≤ largestCount ⌝ }
+    requires { ⌜ ((j : ℕ) → j < length (now writer) → getD (now writer) j 0 < largestCount) ⌝ }
+    requires { ⌜ ((i : ℕ) → i < length (now run) → getD (now run) i 0 < largestCount) ⌝ }
+    requires { ⌜ ((i : ℕ) → i < length (now inner) → getD (now inner) i 0 < largestCount) ⌝ }
     ensures { λ r. ⌜ Freed (now (writer .entry)) (now (run .entry) ++ now (inner .entry)) r ⌝ }
 {
     let n = writer.len();
@@ -216,10 +217,10 @@ pub fn free(writer: &[u64], run: &[u64], inner: &[u64]) -> State
 // The cluster of the write w, laid down whole.
 pub fn cluster(writer: &[u64], last: &[u64], prev: &[u64], w: usize) -> State
     requires { ⌜ Linked (now writer) (now last) (now prev) ⌝ }
-    requires { ⌜ length (now writer) ≤ 1024 ⌝ }
+    requires { ⌜ length (now writer) ≤ largestCount ⌝ }
     requires { ⌜ w < length (now writer) ⌝ }
     requires { ⌜ getD (now writer) w 0 ≡ w ⌝ }
-    ensures { λ r. ⌜ (laid r ≡ clusterAt (now (writer .entry)) w) × (length (r .order) ≡ 1024) × (r .at ≤ 1024) ⌝ }
+    ensures { λ r. ⌜ (laid r ≡ clusterAt (now (writer .entry)) w) × (length (r .order) ≡ largestCount) × (r .at ≤ largestCount) ⌝ }
 {
     let n = writer.len();
     let s = placing::begin(n);

@@ -6,6 +6,7 @@ use mathlib.Core.Path.{_≡_}
 use mathlib.Core.Bool.{true, false}
 use mathlib.Core.List.{List, _∷_, List·Memᴰ as In}
 use lib.ListN.{length, getD, drop}
+use Rattle.history.specs.Table.{largestCount}
 use Rattle.lists.specs.Lists.{keep}
 use Rattle.lists.specs.Pairs.{Pairs}
 use Rattle.history.specs.declared.Op.{Op}
@@ -44,8 +45,8 @@ runOf H run top = record { first = op H (getD run 0 0); more = ops H (drop 1 run
 
 -- a state's order is the one of an item, alone
 pub record Holds-order (C : Cols) (item : List Op → Item) (s : State) : Type 0 where
-  pub cells : length (s .order) ≡ 1024
-  pub high : s .at ≤ 1024
+  pub cells : length (s .order) ≡ largestCount
+  pub high : s .at ≤ largestCount
   pub whole : Says C (λ H. made H (item H) ≡ order (ops H (laid s)))
 
 -- THE CONTRACT of a chunk: it has no viable order, or this one

@@ -7,6 +7,7 @@ ghost use mathlib.Core.Path.{_≡_};
 ghost use mathlib.Core.List.{_++_};
 ghost use Prim.Native.Nat.{ℕ, _+_, _≤_, _<_};
 ghost use lib.ListN.{length, take};
+ghost use Rattle.history.specs.Table.{largestCount};
 ghost use Rattle.methods.specs.Zones.{low};
 ghost use Rattle.methods.specs.Fzf.{fzf};
 ghost use Rattle.methods.specs.Mark.{untried};
@@ -46,7 +47,7 @@ fn chunk(
     top: u64,
 ) -> Tried
     requires { ⌜ Sound (cols (now start) (now finish) (now writer) (now last) (now prev)) ⌝ }
-    requires { ⌜ length (now start) ≤ 1024 ⌝ }
+    requires { ⌜ length (now start) ≤ largestCount ⌝ }
     requires { ⌜ Zoned (cols (now start) (now finish) (now writer) (now last) (now prev)) (now late) ⌝ }
     requires { ⌜ Cut (cols (now start) (now finish) (now writer) (now last) (now prev)) (now late) (now run) ⌝ }
     requires { ⌜ now backwards ≡ backs (cols (now start) (now finish) (now writer) (now last) (now prev)) (now late) ⌝ }
@@ -124,7 +125,7 @@ fn item(
     j: usize,
 ) -> Next
     requires { ⌜ Sound (cols (now start) (now finish) (now writer) (now last) (now prev)) ⌝ }
-    requires { ⌜ length (now start) ≤ 1024 ⌝ }
+    requires { ⌜ length (now start) ≤ largestCount ⌝ }
     requires { ⌜ Zoned (cols (now start) (now finish) (now writer) (now last) (now prev)) (now late) ⌝ }
     requires { ⌜ now forwards ≡ forths (cols (now start) (now finish) (now writer) (now last) (now prev)) (now late) ⌝ }
     requires { ⌜ now backwards ≡ backs (cols (now start) (now finish) (now writer) (now last) (now prev)) (now late) ⌝ }
@@ -188,7 +189,7 @@ fn join(
     backwards: &[u64],
 ) -> Search
     requires { ⌜ Sound (cols (now start) (now finish) (now writer) (now last) (now prev)) ⌝ }
-    requires { ⌜ length (now start) ≤ 1024 ⌝ }
+    requires { ⌜ length (now start) ≤ largestCount ⌝ }
     requires { ⌜ Known (cols (now start) (now finish) (now writer) (now last) (now prev)) ⌝ }
     requires { ⌜ Zoned (cols (now start) (now finish) (now writer) (now last) (now prev)) (now late) ⌝ }
     requires { ⌜ now forwards ≡ forths (cols (now start) (now finish) (now writer) (now last) (now prev)) (now late) ⌝ }
@@ -239,7 +240,7 @@ fn split(
     list: &[u64],
 ) -> Search
     requires { ⌜ Sound (cols (now start) (now finish) (now writer) (now last) (now prev)) ⌝ }
-    requires { ⌜ length (now start) ≤ 1024 ⌝ }
+    requires { ⌜ length (now start) ≤ largestCount ⌝ }
     requires { ⌜ Known (cols (now start) (now finish) (now writer) (now last) (now prev)) ⌝ }
     requires { ⌜ Zoned (cols (now start) (now finish) (now writer) (now last) (now prev)) (now late) ⌝ }
     requires { ⌜ now list ≡ byLow (now finish) (now late) (now writer) ⌝ }
@@ -264,7 +265,7 @@ fn split(
 // FZF: whether the history is 2-atomic, with an order.
 pub fn search(start: &[u64], finish: &[u64], writer: &[u64], last: &[u64], prev: &[u64]) -> Search
     requires { ⌜ Sound (cols (now start) (now finish) (now writer) (now last) (now prev)) ⌝ }
-    requires { ⌜ length (now start) ≤ 1024 ⌝ }
+    requires { ⌜ length (now start) ≤ largestCount ⌝ }
     requires { ⌜ Known (cols (now start) (now finish) (now writer) (now last) (now prev)) ⌝ }
     ensures { λ r. ⌜ ((allowance : ℕ) → Searched (cols (now (start .entry)) (now (finish .entry)) (now (writer .entry)) (now (last .entry)) (now (prev .entry))) allowance (λ H. untried (fzf H)) r) ⌝ }
 {

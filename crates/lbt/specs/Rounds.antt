@@ -5,6 +5,7 @@ use mathlib.Core.Path.{_≡_}
 use mathlib.Core.Bool.{Bool, false}
 use mathlib.Core.List.{List}
 use lib.ListN.{length, getD}
+use Rattle.history.specs.Table.{largestCount}
 use Rattle.history.specs.declared.Op.{Op}
 use Rattle.methods.specs.Lbt.{candidates, Round, lost, won, round}
 use Rattle.positions.specs.Places.{and, latest}
@@ -43,7 +44,7 @@ abbrev pub ended : State → ℕ → ℕ → Turn
 ended s trials kind = record { state = s; trials = trials; kind = kind }
 
 abbrev pub answered : Turn → Search
-answered r = record { order = r .state .order; from = r .state .at; to = 1024; trials = r .trials; kind = r .kind }
+answered r = record { order = r .state .order; from = r .state .at; to = largestCount; trials = r .trials; kind = r .kind }
 
 -- THE CONTRACT of a round; s is the state and base the trials before it
 pub data Turned (C : Cols) (s : State) (base allowance : ℕ) (r : Turn) : Type 0 where

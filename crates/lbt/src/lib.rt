@@ -6,6 +6,7 @@ use placing::Tried;
 ghost use mathlib.Core.Path.{_≡_};
 ghost use Prim.Native.Nat.{ℕ, _≤_, _<_};
 ghost use lib.ListN.{length, getD};
+ghost use Rattle.history.specs.Table.{largestCount};
 ghost use Rattle.methods.specs.Mark.{walked};
 ghost use Rattle.methods.specs.Lbt.{lbt};
 ghost use Rattle.positions.specs.Places.{latest};
@@ -56,7 +57,7 @@ fn epoch(
 // One more than the last write below `low` that is not placed, 0 where there is none.
 fn newest(writer: &[u64], placed: &[u8; Row::LARGEST_COUNT], low: usize) -> usize
     requires { ⌜ low ≤ length (now writer) ⌝ }
-    requires { ⌜ length (now writer) ≤ 1024 ⌝ }
+    requires { ⌜ length (now writer) ≤ largestCount ⌝ }
     ensures { λ r. ⌜ r ≡ latest (openWrite (now (writer .entry)) (now (placed .entry))) low ⌝ }
 {
     let mut k = low;
@@ -75,7 +76,7 @@ fn newest(writer: &[u64], placed: &[u8; Row::LARGEST_COUNT], low: usize) -> usiz
 
 // The first of the writes in falling finish, from `from` on, that is not placed.
 fn first(falling: &[u64], placed: &[u8; Row::LARGEST_COUNT], from: usize) -> usize
-    requires { ⌜ ((i : ℕ) → i < length (now falling) → getD (now falling) i 0 < 1024) ⌝ }
+    requires { ⌜ ((i : ℕ) → i < length (now falling) → getD (now falling) i 0 < largestCount) ⌝ }
     requires { ⌜ Skipped (now falling) (now placed) from ⌝ }
     ensures { λ r. ⌜ Skipped (now (falling .entry)) (now (placed .entry)) r ⌝ }
 {
@@ -179,7 +180,7 @@ pub fn search(
 ) -> Search
     requires { ⌜ Sound (cols (now start) (now finish) (now writer) (now last) (now prev)) ⌝ }
     requires { ⌜ now falling ≡ byFinish (cols (now start) (now finish) (now writer) (now last) (now prev)) ⌝ }
-    requires { ⌜ length (now start) ≤ 1024 ⌝ }
+    requires { ⌜ length (now start) ≤ largestCount ⌝ }
     ensures { λ r. ⌜ Searched (cols (now (start .entry)) (now (finish .entry)) (now (writer .entry)) (now (last .entry)) (now (prev .entry))) allowance (λ H. walked (lbt H)) r ⌝ }
 {
     let n = start.len();

@@ -5,6 +5,7 @@ use mathlib.Core.Path.{_≡_}
 use mathlib.Core.Logic.{_⊎_}
 use mathlib.Core.List.{List}
 use lib.ListN.{length}
+use Rattle.history.specs.Table.{largestCount}
 use Rattle.history.specs.declared.Op.{Op}
 use Rattle.history.specs.declared.Answer.{Answer}
 use Rattle.methods.specs.Mark.{Outcome, Result, rowNumbers, judged}
@@ -23,8 +24,8 @@ Asked question = (question ≡ 1) ⊎ (question ≡ 2) ⊎ (question ≡ 3)
 -- an order that was found stands within its array, and is no longer than the list
 pub record Fits (r : Search) (list : List ℕ) : Type 0 where
   pub rising : r .kind ≡ 1 → r .from ≤ r .to
-  pub inside : r .kind ≡ 1 → r .to ≤ 1024
-  pub cells : r .kind ≡ 1 → length (r .order) ≡ 1024
+  pub inside : r .kind ≡ 1 → r .to ≤ largestCount
+  pub cells : r .kind ≡ 1 → length (r .order) ≡ largestCount
   pub room : r .kind ≡ 1 → r .to - r .from ≤ length list
 
 -- the outcome of what was found, whatever the method and the prepared history that it was found by

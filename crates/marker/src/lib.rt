@@ -6,7 +6,7 @@ ghost use mathlib.Core.Path.{_≡_};
 ghost use mathlib.Core.List.{List};
 ghost use Prim.Native.Nat.{ℕ, _≤_};
 ghost use lib.ListN.{length};
-ghost use Rattle.history.specs.Table.{history, Alike};
+ghost use Rattle.history.specs.Table.{history, Alike, largestCount};
 ghost use Rattle.history.specs.Answer.{firstMet, passed};
 ghost use Rattle.methods.specs.Prepared.{prepared};
 ghost use Rattle.methods.specs.Lbt.{lbt};
@@ -63,7 +63,7 @@ fn walk(
     allowance: u64,
 ) -> Search
     requires { ⌜ Sound (cols (now start) (now finish) (now writer) (now last) (now prev)) ⌝ }
-    requires { ⌜ length (now start) ≤ 1024 ⌝ }
+    requires { ⌜ length (now start) ≤ largestCount ⌝ }
     ensures { λ r. ⌜ Searched (cols (now (start .entry)) (now (finish .entry)) (now (writer .entry)) (now (last .entry)) (now (prev .entry))) allowance (λ H. walked (lbt H)) r ⌝ }
 {
     let mut falling = [0u64; Row::LARGEST_COUNT];
@@ -82,7 +82,7 @@ fn search(
     allowance: u64,
 ) -> Search
     requires { ⌜ Sound (cols (now start) (now finish) (now writer) (now last) (now prev)) ⌝ }
-    requires { ⌜ length (now start) ≤ 1024 ⌝ }
+    requires { ⌜ length (now start) ≤ largestCount ⌝ }
     requires { ⌜ Known (cols (now start) (now finish) (now writer) (now last) (now prev)) ⌝ }
     ensures { λ r. ⌜ Searched (cols (now (start .entry)) (now (finish .entry)) (now (writer .entry)) (now (last .entry)) (now (prev .entry))) allowance (method question) r ⌝ }
 {
@@ -147,7 +147,7 @@ fn work(
 ) -> Answer
     requires { ⌜ Room (now rows) (now start) (now finish) (now writer) (now last) (now prev) ⌝ }
     requires { ⌜ ((register : ℕ) × Listed (now table) register (now rows)) ⌝ }
-    requires { ⌜ length (now rows) ≤ 1024 ⌝ }
+    requires { ⌜ length (now rows) ≤ largestCount ⌝ }
     requires { ⌜ length (now rows) ≤ length (now list) ⌝ }
     requires { ⌜ Asked question ⌝ }
     ensures { λ r. ⌜ ((register : ℕ) → Listed (now (table .entry)) register (now (rows .entry)) → outcome r (now (list .exit)) ≡ judged (length (history (now (table .entry)) register)) allowance (now (list .entry)) (method question (prepared (history (now (table .entry)) register)))) ⌝ }

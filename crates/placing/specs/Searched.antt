@@ -4,6 +4,7 @@ use Prim.Native.Nat.{ℕ, _-_, _≤_, _<_}
 use mathlib.Core.Path.{_≡_}
 use mathlib.Core.List.{List}
 use lib.ListN.{length, take, drop}
+use Rattle.history.specs.Table.{largestCount}
 use Rattle.history.specs.declared.Op.{Op}
 use Rattle.methods.specs.Zones.{none, order}
 use Rattle.methods.specs.Mark.{Result}
@@ -17,6 +18,6 @@ found r = take (r .to - r .from) (drop (r .from) (r .order))
 -- THE CONTRACT of a search by the method m: no order, an order, or more trials than the allowance
 pub data Searched (C : Cols) (allowance : ℕ) (m : List Op → Result) (r : Search) : Type 0 where
   is-stale : r .kind ≡ 0 → r .trials ≤ allowance → Says C (λ H. m H ≡ record { decision = none; trials = r .trials }) → Searched C allowance m r
-  is-fresh : r .kind ≡ 1 → r .trials ≤ allowance → r .from ≤ r .to → r .to ≤ 1024 → length (r .order) ≡ 1024 →
+  is-fresh : r .kind ≡ 1 → r .trials ≤ allowance → r .from ≤ r .to → r .to ≤ largestCount → length (r .order) ≡ largestCount →
       Says C (λ H. m H ≡ record { decision = order (ops H (found r)); trials = r .trials }) → Searched C allowance m r
   is-spent : r .kind ≡ 2 → Says C (λ H. allowance < m H .trials) → Searched C allowance m r

@@ -6,6 +6,7 @@ use mathlib.Core.Bool.{Bool, true, false}
 use mathlib.Core.List.{List}
 use lib.ListN.{length, getD, drop, replicate}
 use lib.Dec.{eqb}
+use Rattle.history.specs.Table.{largestCount}
 use Rattle.positions.specs.Places.{upto}
 use Rattle.positions.specs.Columns.{Cols, size, wr}
 use Rattle.placing.specs.declared.State.{State}
@@ -24,15 +25,15 @@ laid s = drop (s .at) (s .order)
 
 -- the state before anything is placed
 unfoldable pub begun : ℕ → State
-begun n = record { placed = replicate 1024 0; order = replicate 1024 0; at = 1024; top = n }
+begun n = record { placed = replicate largestCount 0; order = replicate largestCount 0; at = largestCount; top = n }
 
 -- a state of n operations with room for those that are left, of which none is from the top on
 pub record Ready (n : ℕ) (s : State) : Type 0 where
-  pub size : n ≤ 1024
+  pub size : n ≤ largestCount
   pub within : s .top ≤ n
-  pub marks : length (s .placed) ≡ 1024
-  pub cells : length (s .order) ≡ 1024
-  pub high : s .at ≤ 1024
+  pub marks : length (s .placed) ≡ largestCount
+  pub cells : length (s .order) ≡ largestCount
+  pub high : s .at ≤ largestCount
   pub room : length (left s) ≤ s .at
   pub above : (j : ℕ) → s .top ≤ j → j < n → isFree (s .placed) j ≡ false
 

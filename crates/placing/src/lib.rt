@@ -3,6 +3,7 @@ use history::Row;
 ghost use mathlib.Core.Path.{_≡_};
 ghost use Prim.Native.Nat.{_<_};
 ghost use lib.ListN.{length};
+ghost use Rattle.history.specs.Table.{largestCount};
 ghost use Rattle.positions.specs.Columns.{cols, Linked, Shaped, Sound};
 ghost use Rattle.placing.specs.Rules.{clash, ask};
 ghost use Rattle.placing.specs.States.{begun, Ready, Holds, Whose};
@@ -44,7 +45,7 @@ impl Search {
 
 // Whether the unplaced operation i, of the write v, ends the scan for w.
 fn clash(i: u64, v: u64, w: u64, asked: u64) -> bool
-    requires { ⌜ v < 1024 ⌝ }
+    requires { ⌜ v < largestCount ⌝ }
     ensures { λ r. ⌜ r ≡ clash i v w asked ⌝ }
 {
     if v == i {
@@ -61,7 +62,7 @@ fn clash(i: u64, v: u64, w: u64, asked: u64) -> bool
 
 // The write that is asked for, plus one.
 fn ask(v: u64, w: u64, asked: u64) -> u64
-    requires { ⌜ v < 1024 ⌝ }
+    requires { ⌜ v < largestCount ⌝ }
     ensures { λ r. ⌜ r ≡ ask v w asked ⌝ }
 {
     if v == w { asked } else { v + 1 }

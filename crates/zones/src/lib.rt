@@ -6,6 +6,7 @@ use placing::State;
 ghost use mathlib.Core.Path.{_≡_};
 ghost use Prim.Native.Nat.{ℕ, _≤_, _<_, max};
 ghost use lib.ListN.{length, getD, take};
+ghost use Rattle.history.specs.Table.{largestCount};
 ghost use Rattle.methods.specs.Zones.{zones};
 ghost use Rattle.methods.specs.Mark.{untried};
 ghost use Rattle.positions.specs.Places.{Once};
@@ -147,7 +148,7 @@ fn one(finish: &[u64], late: &[u64], list: &[u64]) -> bool
 pub fn by_low(finish: &[u64], late: &[u64], writer: &[u64], list: &mut [u64]) -> usize
     requires { ⌜ length (now finish) ≡ length (now writer) ⌝ }
     requires { ⌜ length (now late) ≡ length (now finish) ⌝ }
-    requires { ⌜ length (now writer) ≤ 1024 ⌝ }
+    requires { ⌜ length (now writer) ≤ largestCount ⌝ }
     requires { ⌜ length (now writer) ≤ length (now list) ⌝ }
     ensures { λ r. ⌜ (r ≤ length (now (writer .entry))) × (take r (now (list .exit)) ≡ byLow (now (finish .entry)) (now (late .entry)) (now (writer .entry))) ⌝ }
 {
@@ -187,7 +188,7 @@ fn decide(
     list: &[u64],
 ) -> Search
     requires { ⌜ Sound (cols (now start) (now finish) (now writer) (now last) (now prev)) ⌝ }
-    requires { ⌜ length (now start) ≤ 1024 ⌝ }
+    requires { ⌜ length (now start) ≤ largestCount ⌝ }
     requires { ⌜ Zoned (cols (now start) (now finish) (now writer) (now last) (now prev)) (now late) ⌝ }
     requires { ⌜ now list ≡ byLow (now finish) (now late) (now writer) ⌝ }
     ensures { λ r. ⌜ ((allowance : ℕ) → Searched (cols (now (start .entry)) (now (finish .entry)) (now (writer .entry)) (now (last .entry)) (now (prev .entry))) allowance (λ H. untried (zones H)) r) ⌝ }
@@ -218,7 +219,7 @@ fn decide(
 // The zone method: whether the history is 1-atomic, with an order.
 pub fn search(start: &[u64], finish: &[u64], writer: &[u64], last: &[u64], prev: &[u64]) -> Search
     requires { ⌜ Sound (cols (now start) (now finish) (now writer) (now last) (now prev)) ⌝ }
-    requires { ⌜ length (now start) ≤ 1024 ⌝ }
+    requires { ⌜ length (now start) ≤ largestCount ⌝ }
     ensures { λ r. ⌜ ((allowance : ℕ) → Searched (cols (now (start .entry)) (now (finish .entry)) (now (writer .entry)) (now (last .entry)) (now (prev .entry))) allowance (λ H. untried (zones H)) r) ⌝ }
 {
     let n = start.len();
