@@ -11,3 +11,4 @@ pub mod Ranges
 pub mod Cover
 pub mod Scans
 pub mod Decide
+pub mod Stores

@@ -1,0 +1,89 @@
+-- Reading and writing a history file: the tests, the answer and what lies in the lent buffer afterwards (document 01, "Files, program, C host").
+-- Assumes nothing.
+use Prim.Native.Nat.{ℕ, _*_, _-_, _%_, _≤_}
+use mathlib.Core.Path.{_≡_}
+use mathlib.Core.Bool.{Bool, cond, not}
+use mathlib.Core.List.{List, [], _∷_, _++_, map, flatMap}
+use lib.Dec.{ltb, leb, eqb}
+use lib.ListN.{length, drop}
+use Rattle.lists.specs.declared.Found.{Found}
+use Rattle.lists.specs.declared.Found.the-variants.{At, Nothing}
+use Rattle.lists.specs.Lists.{upTo}
+use Rattle.history.specs.declared.Answer.{Answer}
+use Rattle.history.specs.declared.Op.{Op}
+use Rattle.history.specs.Table.{largestCount, operation, opAt, rowCount}
+use Rattle.history.specs.Answer.{ragged, overfull, bad-kind, short-list, cut-record, strange-record, Test, test, ifSo, lowestRow, firstMet, passed}
+use Rattle.history.specs.Screen.{wrongKind}
+use Rattle.files.specs.Records.{field, bodyLength, recordLength, begun, recordAt, tableOf, fileOf}
+
+-- A condition on record n, whose row field is the record's offset (01's table, 16 and 17).
+abbrev pub atRecord : ℕ → Bool → Found
+atRecord n b = cond b (At (n * 36)) Nothing
+
+-- The bytes from record n on.
+abbrev pub left : List ℕ → ℕ → ℕ
+left bs n = length bs - n * 36
+
+-- The tests at record n (01, "Reading tests at each record, in sequence").
+unfoldable pub recordTests : List ℕ → ℕ → List Test
+recordTests bs n =
+    test cut-record (atRecord n (eqb (left bs n) 1))
+    ∷ test strange-record (atRecord n (not (eqb (field bs (n * 36) 2) bodyLength)))
+    ∷ test cut-record (atRecord n (ltb (left bs n) recordLength))
+    ∷ test strange-record (atRecord n (wrongKind (operation (recordAt bs n) n)))
+    ∷ test overfull (atRecord n (leb largestCount n))
+    ∷ []
+
+-- Those of each record that begins (01, "Reading tests at each record, in sequence").
+unfoldable pub fileTests : List ℕ → List Test
+fileTests bs = flatMap (recordTests bs) (upTo (begun bs))
+
+-- The lent buffer has fewer places than the result (01's table, 10).
+abbrev pub roomTest : ℕ → ℕ → Test
+roomTest needed room = test short-list (ifSo (ltb room needed))
+
+-- A lent list after a call: the result at its front where the code is 0, else as it was (01, "A refused reading or writing changes nothing").
+abbrev pub after : Answer → List ℕ → List ℕ → List ℕ
+after a result old = cond (eqb (a .code) 0) (result ++ drop (length result) old) old
+
+-- Reading into a table of some places (01, "After the last record comes 10").
+unfoldable pub readTests : List ℕ → ℕ → List Test
+readTests bs room = fileTests bs ++ (roomTest (begun bs * 5) room ∷ [])
+
+unfoldable pub readAnswer : List ℕ → List ℕ → Answer
+readAnswer bs table = firstMet (readTests bs (length table)) (passed (begun bs))
+
+unfoldable pub readTable : List ℕ → List ℕ → List ℕ
+readTable bs table = after (readAnswer bs table) (tableOf bs) table
+
+-- The operations of every row, whatever its register (01, "Writing tests 1, 2, 4 over every row").
+unfoldable pub opsOf : List ℕ → List Op
+opsOf t = map (opAt t) (upTo (rowCount t))
+
+-- Writing into a buffer of some places (01, "Writing tests 1, 2, 4 over every row, then 10").
+unfoldable pub writeTests : List ℕ → ℕ → List Test
+writeTests t room =
+    test ragged (ifSo (not (eqb (length t % 5) 0)))
+    ∷ test overfull (ifSo (ltb largestCount (rowCount t)))
+    ∷ test bad-kind (lowestRow wrongKind (opsOf t))
+    ∷ roomTest (rowCount t * 36) room
+    ∷ []
+
+unfoldable pub writeAnswer : List ℕ → List ℕ → Answer
+writeAnswer t out = firstMet (writeTests t (length out)) (passed (rowCount t))
+
+unfoldable pub writeBytes : List ℕ → List ℕ → List ℕ
+writeBytes t out = after (writeAnswer t out) (fileOf t) out
+
+-- Reading and writing undo each other: the bytes' table, written anywhere with room, gives the bytes; and the table's file, read so, the table.
+abbrev pub WritesBack : List ℕ → Type 0
+WritesBack bs =
+    (out : List ℕ) →
+    length bs ≤ length out →
+    (writeAnswer (tableOf bs) out ≡ passed (begun bs)) × (writeBytes (tableOf bs) out ≡ bs ++ drop (length bs) out)
+
+abbrev pub ReadsBack : List ℕ → Type 0
+ReadsBack t =
+    (table : List ℕ) →
+    length t ≤ length table →
+    (readAnswer (fileOf t) table ≡ passed (rowCount t)) × (readTable (fileOf t) table ≡ t ++ drop (length t) table)

@@ -1,0 +1,2 @@
+-- What the mark alone says, and that its list is never too short.
+pub mod Saying

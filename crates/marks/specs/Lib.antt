@@ -1,0 +1,2 @@
+-- The mark alone, and what it says.
+pub mod Marks

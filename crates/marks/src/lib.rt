@@ -1,0 +1,17 @@
+// The mark alone: the marking call with a list of 1,024 places inside, so that no list is too short.
+use history::Answer;
+use history::Row;
+ghost use mathlib.Core.Path.{_≡_};
+ghost use mathlib.Core.Logic.{_≢_};
+ghost use Rattle.history.specs.Answer.{number, short-list};
+ghost use Rattle.marks.specs.Marks.{answerTo, Ample, Said};
+
+// The answer of the marking call alone; its order is dropped.
+pub fn answer(table: &[u64], register: u64, question: u64, allowance: u64) -> Answer
+    ensures answer { λ r. ⌜ r ≡ answerTo (now (table .entry)) register question allowance ⌝ }
+    ensures said { λ r. ⌜ (Ample question allowance → Said (now (table .entry)) register question (r .code)) ⌝ }
+    ensures room { λ r. ⌜ r .code ≢ number short-list ⌝ }
+{
+    let mut list = [0u64; Row::LARGEST_COUNT];
+    marker::mark(table, register, question, allowance, &mut list)
+}

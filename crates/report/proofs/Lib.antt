@@ -1,0 +1,4 @@
+-- The laws of texts in a lent buffer.
+pub mod Printing
+pub mod Lines
+pub mod Reporting

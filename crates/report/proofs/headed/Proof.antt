@@ -1,0 +1,60 @@
+-- The header and the lines are two parts of one text.
+use mathlib.Core.List.{_++_}
+use native.Mathlib.Omega.{arith}
+use lib.ListN.{length-append}
+use borrow.Author.Needs.{needs}
+use Rattle.text.specs.Decimal.{linesOf}
+use Rattle.text.proofs.Joins.{lines-length}
+use Rattle.report.specs.Report.{header}
+use Rattle.report.proofs.Printing.{printed-short, printed, parts}
+use Rattle.report.proofs.headed.Statement.{statement}
+use Rattle.report.proofs.headed.Tie as tie
+
+lines-length-requires : tie.Need-lines-length-requires
+lines-length-requires c κs = search needs
+
+add-length : tie.Need-add-length
+add-length c = omega (arith, c .lines-length .ensures, lines-length 5 (c .before .before .before .args .k) (c .before .before .before .args .numbers .now))
+
+refused-requires : tie.Need-refused-requires
+refused-requires c κs = search needs
+
+returns : tie.Need-returns
+returns c =
+    let a = c .before .before .before .before .before .args in
+    printed-short (header ++ linesOf 5 (a .k) (a .numbers .now)) _ _ (omega (arith, c .before .before .lines-length .ensures, length-append header (linesOf 5 (a .k) (a .numbers .now)))) _ (c .before .if1 .taken) (c .refused .ensures)
+
+slice-aggregate-put-bytes : tie.Need-slice-aggregate-put-bytes
+slice-aggregate-put-bytes c = search needs
+
+put-bytes-requires : tie.Need-put-bytes-requires
+put-bytes-requires c κs = search needs
+
+put-lines-requires : tie.Need-put-lines-requires
+put-lines-requires c κs = search needs
+
+passed-requires : tie.Need-passed-requires
+passed-requires c κs = search needs
+
+same-length : tie.Need-same-length
+same-length c = search needs
+
+returns-2 : tie.Need-returns-2
+returns-2 c =
+    let a = c .before .before .before .before .before .before .before .before .before .before .before .before .before .before .args in
+    printed (header ++ linesOf 5 (a .k) (a .numbers .now)) _ _ (omega (arith, c .before .before .before .before .before .before .before .before .before .before .before .lines-length .ensures, length-append header (linesOf 5 (a .k) (a .numbers .now)))) _ _ (omega arith) (c .passed .ensures) (parts header (linesOf 5 (a .k) (a .numbers .now)) (a .out .now) _ _ _ (c .before .before .before .before .before .before .before .put-bytes .ensures .0) (c .before .before .before .before .before .before .before .put-bytes .ensures .1) (c .before .before .before .put-lines .ensures .1))
+
+pub headed-spec : {M : Type 1} → statement M
+headed-spec =
+    tie.close
+    (tie.spec
+    lines-length-requires
+    add-length
+    refused-requires
+    returns
+    slice-aggregate-put-bytes
+    put-bytes-requires
+    put-lines-requires
+    passed-requires
+    same-length
+    returns-2)

@@ -1,0 +1,3 @@
+-- The texts that the programs print.
+pub mod Texts
+pub mod Report

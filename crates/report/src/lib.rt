@@ -1,0 +1,96 @@
+// The report of a road: the header line, and a line for each register; or the line of a refused file.
+use history::Answer;
+ghost use mathlib.Core.Path.{_≡_};
+ghost use mathlib.Core.List.{[], _∷_, _++_};
+ghost use Prim.Native.Nat.{ℕ, _+_, _*_, _≤_, _<_, _^_};
+ghost use lib.ListN.{length};
+ghost use lib.Seq.{sets};
+ghost use Rattle.text.specs.Decimal.{line, linesOf};
+ghost use Rattle.report.specs.Texts.{Printed, refusedLine};
+ghost use Rattle.report.specs.Report.{header, reportAnswer, reportAfter};
+
+// Writes a word and a line of numbers at the front of the buffer: a text of its own.
+fn worded(word: &[u8], numbers: &[u64], out: &mut [u8]) -> Answer
+    requires { ⌜ length (now word) + length (now numbers) < 2 ^ 32 ⌝ }
+    ensures { λ r. ⌜ Printed (now (word .entry) ++ line (now (numbers .entry))) (now (out .entry)) r (now (out .exit)) ⌝ }
+{
+    let length = word.len() + text::line_length(numbers);
+    if out.len() < length {
+        return Answer::refused(Answer::SHORT_LIST, 0);
+    }
+    let next = text::put_bytes(word, out, 0);
+    text::put_line(numbers, out, next);
+    Answer::passed(length as u64)
+}
+
+// The line of a refused file.
+pub fn refusal(answer: Answer, out: &mut [u8]) -> Answer
+    ensures { λ r. ⌜ Printed (refusedLine answer) (now (out .entry)) r (now (out .exit)) ⌝ }
+{
+    let numbers = [answer.code, answer.row];
+    worded(b"refused,", &numbers, out)
+}
+
+// How many bytes k lines of five numbers take.
+fn lines_length(numbers: &[u64], k: usize) -> usize
+    requires { ⌜ k * 5 ≤ length (now numbers) ⌝ }
+    requires { ⌜ k ≤ 1024 ⌝ }
+    ensures { λ r. ⌜ r ≡ length (linesOf 5 k (now (numbers .entry))) ⌝ }
+{
+    let mut total: usize = 0;
+    let mut i: usize = 0;
+    while i < k {
+        let from = i * 5;
+        let to = from + 5;
+        total += text::line_length(&numbers[from..to]);
+        i += 1;
+    }
+    total
+}
+
+// Writes k lines of five numbers from `at` on; the place behind them.
+fn put_lines(numbers: &[u64], k: usize, out: &mut [u8], at: usize) -> usize
+    requires { ⌜ k * 5 ≤ length (now numbers) ⌝ }
+    requires { ⌜ k ≤ 1024 ⌝ }
+    requires { ⌜ at + length (linesOf 5 k (now numbers)) ≤ length (now out) ⌝ }
+    ensures { λ r. ⌜ (r ≡ at + length (linesOf 5 k (now (numbers .entry)))) × (now (out .exit) ≡ sets (now (out .entry)) at (linesOf 5 k (now (numbers .entry)))) ⌝ }
+{
+    let mut place = at;
+    let mut i: usize = 0;
+    while i < k {
+        let from = i * 5;
+        let to = from + 5;
+        place = text::put_line(&numbers[from..to], out, place);
+        i += 1;
+    }
+    place
+}
+
+// The header line, and k lines of five numbers.
+fn headed(numbers: &[u64], k: usize, out: &mut [u8]) -> Answer
+    requires { ⌜ k * 5 ≤ length (now numbers) ⌝ }
+    requires { ⌜ k ≤ 1024 ⌝ }
+    ensures { λ r. ⌜ Printed (header ++ linesOf 5 k (now (numbers .entry))) (now (out .entry)) r (now (out .exit)) ⌝ }
+{
+    let length = 26 + lines_length(numbers, k);
+    if out.len() < length {
+        return Answer::refused(Answer::SHORT_LIST, 0);
+    }
+    let next = text::put_bytes(b"register,rows,one,two,row\n", out, 0);
+    put_lines(numbers, k, out, next);
+    Answer::passed(length as u64)
+}
+
+// The report of a table.
+pub fn report(table: &[u64], out: &mut [u8]) -> Answer
+    ensures { λ r. ⌜ (r ≡ reportAnswer (now (table .entry)) (now (out .entry))) × (now (out .exit) ≡ reportAfter (now (table .entry)) (now (out .entry))) ⌝ }
+{
+    let mut numbers = [0u64; 5120];
+    let summed = summary::summary(table, &mut numbers);
+    if summed.code != 0 {
+        return summed;
+    }
+    let k = summed.rows as usize;
+    let n = k * 5;
+    headed(&numbers[..n], k, out)
+}
