@@ -9,9 +9,9 @@ use lib.ListN.{length, drop}
 use Rattle.history.specs.declared.Answer.{Answer}
 use Rattle.history.specs.Answer.{firstMet, passed}
 use Rattle.files.specs.Records.{begun}
-use Rattle.files.specs.Files.{fileTests, roomTest, after, readTests, readAnswer}
+use Rattle.files.specs.Files.{fileAnswer, fileTests, roomTest, after, readTests, readAnswer}
 use Rattle.files.proofs.Meeting.{met-stop, met-on}
-use Rattle.files.proofs.Passing.{fileAnswer, file-coded}
+use Rattle.files.proofs.Passing.{file-coded}
 
 -- the lent list, by the answer's code
 pub after-refused : (a : Answer) (result old : List ℕ) → a .code ≢ 0 → after a result old ≡ old

@@ -8,3 +8,4 @@ pub mod Records
 pub mod Calls
 pub mod Undo
 pub mod Cases
+pub mod Loading

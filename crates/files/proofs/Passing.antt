@@ -16,14 +16,13 @@ use Rattle.lists.proofs.Members.{first-cons-hit, first-cons-miss, nothing-none,
 use Rattle.lists.proofs.Maps.{in-map, map-in, in-flat}
 use Rattle.lists.proofs.Ranges.{below-in, in-below}
 use Rattle.history.specs.declared.Op.{Op}
-use Rattle.history.specs.declared.Answer.{Answer}
 use Rattle.history.specs.Table.{largestCount, cell, operation, opAt, rowCount, isWrite, isRead}
 use Rattle.history.specs.Answer.{number, overfull, strange-record, Test, lowestRow, refusedOr, firstMet, passed}
 use Rattle.history.specs.Screen.{wrongKind}
 use Rattle.history.proofs.Operations.{told-write, told-read}
 use Rattle.history.proofs.Refusals.{NoFault, Coded, coded-append, no-fault-append, no-fault-left, no-fault-right, code-no-fault, no-fault-answer, if-so, if-not}
 use Rattle.files.specs.Records.{field, begun, recordAt}
-use Rattle.files.specs.Files.{atRecord, left, recordTests, fileTests, roomTest, readTests, readAnswer, opsOf, writeTests, writeAnswer}
+use Rattle.files.specs.Files.{atRecord, left, recordTests, fileTests, fileAnswer, roomTest, readTests, readAnswer, opsOf, writeTests, writeAnswer}
 use Rattle.files.proofs.Meeting.{met-stop, coded-in, no-fault-flat, flat-no-fault}
 
 -- The bytes are at most 1,024 whole records of a right kind.
@@ -129,14 +128,10 @@ module _ (bs : List ℕ) where
             ),
           )
 
-  -- the answer without a test of the room
-  abbrev pub fileAnswer : Answer
-  fileAnswer = firstMet (fileTests bs) (passed (begun bs))
-
-  pub code-whole : fileAnswer .code ≡ 0 → Whole bs
+  pub code-whole : fileAnswer bs .code ≡ 0 → Whole bs
   code-whole e = file-whole (code-no-fault (fileTests bs) (file-coded bs) (passed (begun bs)) e)
 
-  pub whole-answer : Whole bs → fileAnswer ≡ passed (begun bs)
+  pub whole-answer : Whole bs → fileAnswer bs ≡ passed (begun bs)
   whole-answer w = no-fault-answer (fileTests bs) (passed (begun bs)) (whole-file w)
 
 -- A table that passes, both ways.

@@ -38,6 +38,10 @@ recordTests bs n =
 unfoldable pub fileTests : List ℕ → List Test
 fileTests bs = flatMap (recordTests bs) (upTo (begun bs))
 
+-- What reading answers where the table has room: the first of them that is met, or the count of rows (01, "On success rows is the row count").
+abbrev pub fileAnswer : List ℕ → Answer
+fileAnswer bs = firstMet (fileTests bs) (passed (begun bs))
+
 -- The lent buffer has fewer places than the result (01's table, 10).
 abbrev pub roomTest : ℕ → ℕ → Test
 roomTest needed room = test short-list (ifSo (ltb room needed))

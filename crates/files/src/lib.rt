@@ -14,7 +14,7 @@ ghost use Rattle.history.specs.Table.{rowAt, rowCount};
 ghost use Rattle.history.specs.Answer.{firstMet, passed, lowestRow};
 ghost use Rattle.history.specs.Screen.{wrongKind};
 ghost use Rattle.files.specs.Records.{littleEndian, field, begun, recordAt, recordOf, cells, tableOf, fileOf};
-ghost use Rattle.files.specs.Files.{recordTests, fileTests, roomTest, readAnswer, readTable, opsOf, writeTests, writeAnswer, writeBytes, WritesBack, ReadsBack};
+ghost use Rattle.files.specs.Files.{recordTests, fileAnswer, roomTest, readAnswer, readTable, opsOf, writeTests, writeAnswer, writeBytes, WritesBack, ReadsBack};
 
 // The bytes of a record, with its length field.
 const RECORD: usize = 36;
@@ -131,7 +131,7 @@ fn inspect_record(bytes: &[u8], row: usize, rows: u64) -> Answer
 
 // The tests at every record, in sequence.
 fn inspect(bytes: &[u8]) -> Answer
-    ensures { λ r. ⌜ r ≡ firstMet (fileTests (now (bytes .entry))) (passed (begun (now (bytes .entry)))) ⌝ }
+    ensures { λ r. ⌜ r ≡ fileAnswer (now (bytes .entry)) ⌝ }
 {
     let n = begun(bytes);
     let mut i = 0;

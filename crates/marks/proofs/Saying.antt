@@ -97,6 +97,7 @@ module _ (t : List ℕ) (register question : ℕ) where
           decided = (λ c. absurd (neither c), λ k. absurd (n (passes k)));
           fresh-exactly = (λ c. absurd (z c), λ k. absurd (n (passes (k .0))));
           stale-exactly = (λ c. absurd (omega (arith, l, c)), λ k. absurd (n (passes (k .0))));
+          unspent = λ c. omega (arith, l, c);
         }
       where
         neither : (a .code ≡ 0) ⊎ (a .code ≡ 12) → ⊥
@@ -108,6 +109,7 @@ module _ (t : List ℕ) (register question : ℕ) where
           decided = (λ c. askable p, λ k. inr refl);
           fresh-exactly = (λ c. absurd (omega (arith, c)), λ k. absurd (no-order (k .1 .0) (k .1 .1)));
           stale-exactly = (λ c. (askable p, no-order), λ k. refl);
+          unspent = λ c. omega (arith, c);
         }
       where
         no-order : NoOrder t register question
@@ -117,6 +119,7 @@ module _ (t : List ℕ) (register question : ℕ) where
           decided = (λ c. askable p, λ k. inl refl);
           fresh-exactly = (λ c. (askable p, (rowNumbers o, orders-atomic t register i)), λ k. refl);
           stale-exactly = (λ c. absurd (omega (arith, c)), λ k. absurd (k .1 (rowNumbers o) (orders-atomic t register i)));
+          unspent = λ c. omega (arith, c);
         }
 
     -- WHAT THE MARK SAYS

@@ -2,12 +2,12 @@
 -- Assumes nothing.
 use Prim.Native.Nat.{ℕ, _≤_}
 use mathlib.Core.Path.{_≡_}
-use mathlib.Core.Logic.{_⊎_, _↔_}
+use mathlib.Core.Logic.{_⊎_, _≢_, _↔_}
 use mathlib.Core.List.{List}
 use lib.ListN.{length, replicate}
 use Rattle.history.specs.declared.Answer.{Answer}
 use Rattle.history.specs.Table.{history, largestCount}
-use Rattle.history.specs.Answer.{number, fresh, stale}
+use Rattle.history.specs.Answer.{number, fresh, spent, stale}
 use Rattle.history.specs.Screen.{Screened}
 use Rattle.methods.specs.Mark.{mark}
 use Rattle.meaning.specs.Demand.{SomeOrder, NoOrder}
@@ -30,8 +30,9 @@ pub record Askable (t : List ℕ) (register question : ℕ) : Type 0 where
   pub asked : (question ≡ 1) ⊎ (question ≡ 2) ⊎ (question ≡ 3)
 
 -- What a code says with an ample allowance: it is fresh or stale exactly where the register passes the screening, fresh exactly where some order is
--- valid and k-atomic, and stale exactly where none is.
+-- valid and k-atomic, and stale exactly where none is; and it is never spent.
 pub record Said (t : List ℕ) (register question code : ℕ) : Type 0 where
   pub decided : ((code ≡ number fresh) ⊎ (code ≡ number stale)) ↔ Askable t register question
   pub fresh-exactly : (code ≡ number fresh) ↔ (Askable t register question × SomeOrder t register question)
   pub stale-exactly : (code ≡ number stale) ↔ (Askable t register question × NoOrder t register question)
+  pub unspent : code ≢ number spent

@@ -2,3 +2,4 @@
 pub mod Printing
 pub mod Lines
 pub mod Reporting
+pub mod Filing

@@ -7,7 +7,8 @@ ghost use lib.ListN.{length};
 ghost use lib.Seq.{sets};
 ghost use Rattle.text.specs.Decimal.{line, linesOf};
 ghost use Rattle.report.specs.Texts.{Printed, refusedLine};
-ghost use Rattle.report.specs.Report.{header, reportAnswer, reportAfter};
+ghost use Rattle.report.specs.Report.{header, reportOf, reportAnswer, reportAfter};
+ghost use Rattle.report.specs.Files.{fileText};
 
 // Writes a word and a line of numbers at the front of the buffer: a text of its own.
 fn worded(word: &[u8], numbers: &[u64], out: &mut [u8]) -> Answer
@@ -93,4 +94,17 @@ pub fn report(table: &[u64], out: &mut [u8]) -> Answer
     let k = summed.rows as usize;
     let n = k * 5;
     headed(&numbers[..n], k, out)
+}
+
+// The report of a file, or the line of its refusal.
+pub fn road(bytes: &[u8], out: &mut [u8]) -> Answer
+    ensures { λ r. ⌜ Printed (fileText (now (bytes .entry)) reportOf) (now (out .entry)) r (now (out .exit)) ⌝ }
+{
+    let mut table = [0u64; 5120];
+    let loaded = files::read(bytes, &mut table);
+    if loaded.code != 0 {
+        return refusal(loaded, out);
+    }
+    let n = (loaded.rows as usize) * 5;
+    report(&table[..n], out)
 }

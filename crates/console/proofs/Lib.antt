@@ -1,0 +1,2 @@
+-- Laws that the calls need.
+pub mod Reading

@@ -1,0 +1,28 @@
+-- As many numbers are read as the list has places, at most.
+-- Assumes nothing.
+use Prim.Native.Nat.{ℕ, _≤_}
+use mathlib.Core.Path.{_≡_, sym, _∙_}
+use mathlib.Core.Bool.{Bool, true, false, cond}
+use mathlib.Core.List.{List}
+use native.Mathlib.Omega.{arith}
+use lib.ListN.{length}
+use lib.Seq.{length-take-le}
+use Rattle.io.specs.Counts.{Counts}
+use Rattle.text.specs.declared.Count.{Count}
+use Rattle.text.specs.declared.Count.the-variants.{Read}
+use Rattle.text.specs.Numbers.{sound, leading, numbers, no-list, linesIn, counted}
+use Rattle.text.proofs.Lines.{leading-length}
+
+read-within : (k n : ℕ) (t : List ℕ) → counted (linesIn k t) ≡ Read n → n ≤ k
+unfolding counted linesIn
+read-within k n t e = go (sound k t) e
+  where
+    go : (b : Bool) → counted (cond b (numbers (leading k t)) no-list) ≡ Read n → n ≤ k
+    go true e = let s : length (leading k t) ≡ n = cc in omega (arith, s, leading-length k t)
+    go false e = let z : _≡_ {A = ℕ} 0 1 = cc in absurd (omega arith)
+
+-- a call that answers n numbers, and keeps the list's length
+pub read-counts : (list after t : List ℕ) (n : ℕ) (r : Count) → r ≡ counted (linesIn (length list) t) → r ≡ Read n → length after ≡ length list → Counts n after
+read-counts list after t n r e f k =
+    let w = read-within (length list) n t (sym e ∙ f) in
+    (omega (arith, k, w), sym (length-take-le n after (omega (arith, k, w))))

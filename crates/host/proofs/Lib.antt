@@ -1,0 +1,2 @@
+-- The entry's contract from those of the calls it makes.
+pub mod Entry

@@ -1,0 +1,2 @@
+-- The entry for a C host.
+pub mod Host

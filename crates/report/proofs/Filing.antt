@@ -1,0 +1,60 @@
+-- What is printed of a file, from its reading.
+-- Assumes nothing.
+use Prim.Native.Nat.{ℕ, _%_, _≤_}
+use mathlib.Core.Path.{_≡_, refl, sym, ap, _∙_}
+use mathlib.Core.Logic.{_≢_}
+use mathlib.Core.Bool.{Bool, true, false, cond}
+use mathlib.Core.List.{List, [], _∷_}
+use native.Mathlib.Omega.{arith}
+use lib.Dec.{eqb}
+use lib.ListN.{length, length-append}
+use borrow.Author.Tests.{eq-eqb, ne-eqb, le-ltb}
+use Rattle.history.specs.declared.Answer.{Answer}
+use Rattle.history.specs.Table.{largestCount, rowCount}
+use Rattle.history.specs.Answer.{firstMet}
+use Rattle.text.specs.Decimal.{line}
+use Rattle.text.proofs.Joins.{line-length}
+use Rattle.files.specs.Records.{tableOf}
+use Rattle.files.specs.Files.{fileAnswer}
+use Rattle.report.specs.Texts.{refusedWord, refusedLine, textAnswer, textAfter, Printed}
+use Rattle.report.specs.Report.{reportOf, reportTests, reportAnswer, reportAfter}
+use Rattle.report.specs.Files.{fileText}
+
+-- a reading's answer, and a text that was printed
+module _ (bytes : List ℕ) (text : List ℕ → List ℕ) (out : List ℕ) (a : Answer) (e : a ≡ fileAnswer bytes) (r : Answer) (after : List ℕ) where
+  -- the line of the refusal
+  pub file-refused : a .code ≢ 0 → Printed (refusedLine a) out r after → Printed (fileText bytes text) out r after
+  unfolding fileText
+  file-refused n p =
+      let w = ne-eqb (fileAnswer bytes .code) 0 (λ z. n (ap (λ x. x .code) e ∙ z)) in
+      (p .0 ∙ ap (λ x. textAnswer (refusedLine x) out) e ∙ sym (rw w refl), p .1 ∙ ap (λ x. textAfter (refusedLine x) out) e ∙ sym (rw w refl))
+
+  -- the text of the table
+  pub file-printed : a .code ≡ 0 → Printed (text (tableOf bytes)) out r after → Printed (fileText bytes text) out r after
+  unfolding fileText
+  file-printed z p =
+      let w = eq-eqb (fileAnswer bytes .code) 0 (sym (ap (λ x. x .code) e) ∙ z) in
+      (p .0 ∙ sym (rw w refl), p .1 ∙ sym (rw w refl))
+
+-- a table of whole rows, no more than 1,024, is not refused
+pub report-whole : (t out : List ℕ) → length t % 5 ≡ 0 → rowCount t ≤ largestCount → (r : Answer) (after : List ℕ) →
+    (r ≡ reportAnswer t out) × (after ≡ reportAfter t out) → Printed (reportOf t) out r after
+unfolding reportAnswer reportAfter reportTests firstMet
+report-whole t out w f r after p =
+    let e = eq-eqb (length t % 5) 0 w in
+    let g = le-ltb largestCount (rowCount t) f in
+    (p .0 ∙ rw (e, g) refl, p .1 ∙ rw (e, g) refl)
+
+-- a line of a refusal: a word and two numbers
+refused-bound : (a : Answer) → length (refusedLine a) ≤ 51
+unfolding refusedLine
+refused-bound a = omega (arith, length-append refusedWord (line (a .code ∷ a .row ∷ [])), line-length (a .code ∷ a .row ∷ []))
+
+-- the text of a file is no longer than a bound of the texts of all tables, where the bound is at least 51
+pub text-bound : (bytes : List ℕ) (text : List ℕ → List ℕ) (n : ℕ) → 51 ≤ n → ((t : List ℕ) → length (text t) ≤ n) → length (fileText bytes text) ≤ n
+unfolding fileText
+text-bound bytes text n few long = go (eqb (fileAnswer bytes .code) 0)
+  where
+    go : (b : Bool) → length (cond b (text (tableOf bytes)) (refusedLine (fileAnswer bytes))) ≤ n
+    go true = long (tableOf bytes)
+    go false = omega (arith, few, refused-bound (fileAnswer bytes))

@@ -1,0 +1,59 @@
+use native.Mathlib.Omega.{arith}
+use Rattle.files.proofs.Loading.{loaded-as, loaded-small, loaded-front, loaded-in, loaded-long}
+use Rattle.report.proofs.Filing.{file-refused, file-printed}
+use Rattle.sheet.specs.Sheet.{sheetOf}
+use Rattle.sheet.specs.Files.{benchOf}
+use borrow.Author.Needs.{needs}
+use Rattle.sheet.proofs.bench.Statement.{statement}
+use Rattle.sheet.proofs.bench.Tie as tie
+
+slice-aggregate-read : tie.Need-slice-aggregate-read
+slice-aggregate-read c = search needs
+
+read-requires : tie.Need-read-requires
+read-requires c κs = search needs
+
+refusal-requires : tie.Need-refusal-requires
+refusal-requires c κs = search needs
+
+same-length : tie.Need-same-length
+same-length c = search needs
+
+returns : tie.Need-returns
+unfolding benchOf
+returns c = let a = c .before .before .before .before .before .before .before .before .before .before .before .args in file-refused (a .bytes .now) (λ t. sheetOf t (a .register) (a .allowance)) _ _ (loaded-as _ _ _ (c .before .before .before .before .before .before .before .read .ensures .0 .0) (omega arith)) _ _ (c .before .before .before .before .if1 .taken) (c .before .before .refusal .ensures)
+
+mul-end : tie.Need-mul-end
+mul-end c = omega (arith, loaded-small (c .before .before .before .before .before .before .before .args .bytes .now) _ (c .before .before .before .read .result) (c .before .before .before .read .last .1 .0) (c .before .before .before .read .ensures .0) (c .if1 .left))
+
+array-share-prefix-table : tie.Need-array-share-prefix-table
+array-share-prefix-table c = loaded-in (c .before .before .before .before .before .before .before .args .bytes .now) _ _ _ (c .before .before .before .read .ensures .0) (c .if1 .left)
+
+slice-aggregate-sheet : tie.Need-slice-aggregate-sheet
+slice-aggregate-sheet c = loaded-long (c .before .before .before .before .before .before .before .before .args .bytes .now) _ _ _ (c .before .before .before .before .read .ensures .0) (c .before .if1 .left)
+
+sheet-requires : tie.Need-sheet-requires
+sheet-requires c κs = search needs
+
+same-length-2 : tie.Need-same-length-2
+same-length-2 c = search needs
+
+returns-2 : tie.Need-returns-2
+unfolding benchOf
+returns-2 c = let a = c .before .before .before .before .before .before .before .before .before .before .before .before .args in let o = c .before .before .before .before .before .before .before .before .read .ensures .0 in file-printed (a .bytes .now) (λ t. sheetOf t (a .register) (a .allowance)) _ _ (loaded-as _ _ _ (o .0) (omega arith)) _ _ (c .before .before .before .before .before .if1 .left) (rw (loaded-front _ _ _ _ o (c .before .before .before .before .before .if1 .left)) at (c .before .before .sheet .ensures))
+
+pub bench-spec : {M : Type 1} → statement M
+bench-spec =
+    tie.close
+    (tie.spec
+    slice-aggregate-read
+    read-requires
+    refusal-requires
+    same-length
+    returns
+    mul-end
+    array-share-prefix-table
+    slice-aggregate-sheet
+    sheet-requires
+    same-length-2
+    returns-2)

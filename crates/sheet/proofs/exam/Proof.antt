@@ -1,0 +1,59 @@
+use native.Mathlib.Omega.{arith}
+use Rattle.files.proofs.Loading.{loaded-as, loaded-small, loaded-front, loaded-in, loaded-long}
+use Rattle.report.proofs.Filing.{file-refused, file-printed}
+use Rattle.sheet.specs.Sheet.{examOf}
+use Rattle.sheet.specs.Files.{examFile}
+use borrow.Author.Needs.{needs}
+use Rattle.sheet.proofs.exam.Statement.{statement}
+use Rattle.sheet.proofs.exam.Tie as tie
+
+slice-aggregate-read : tie.Need-slice-aggregate-read
+slice-aggregate-read c = search needs
+
+read-requires : tie.Need-read-requires
+read-requires c κs = search needs
+
+refusal-requires : tie.Need-refusal-requires
+refusal-requires c κs = search needs
+
+same-length : tie.Need-same-length
+same-length c = search needs
+
+returns : tie.Need-returns
+unfolding examFile
+returns c = let a = c .before .before .before .before .before .before .before .before .before .before .before .before .args in file-refused (a .bytes .now) (λ t. examOf t (a .register) (a .k) (a .list .now)) _ _ (loaded-as _ _ _ (c .before .before .before .before .before .before .before .read .ensures .0 .0) (omega arith)) _ _ (c .before .before .before .before .if1 .taken) (c .before .before .refusal .ensures)
+
+mul-end : tie.Need-mul-end
+mul-end c = omega (arith, loaded-small (c .before .before .before .before .before .before .before .before .args .bytes .now) _ (c .before .before .before .read .result) (c .before .before .before .read .last .1 .0) (c .before .before .before .read .ensures .0) (c .if1 .left))
+
+array-share-prefix-table : tie.Need-array-share-prefix-table
+array-share-prefix-table c = loaded-in (c .before .before .before .before .before .before .before .before .args .bytes .now) _ _ _ (c .before .before .before .read .ensures .0) (c .if1 .left)
+
+slice-aggregate-checked : tie.Need-slice-aggregate-checked
+slice-aggregate-checked c = loaded-long (c .before .before .before .before .before .before .before .before .before .args .bytes .now) _ _ _ (c .before .before .before .before .read .ensures .0) (c .before .if1 .left)
+
+checked-requires : tie.Need-checked-requires
+checked-requires c κs = search needs
+
+same-length-2 : tie.Need-same-length-2
+same-length-2 c = search needs
+
+returns-2 : tie.Need-returns-2
+unfolding examFile
+returns-2 c = let a = c .before .before .before .before .before .before .before .before .before .before .before .before .before .args in let o = c .before .before .before .before .before .before .before .before .read .ensures .0 in file-printed (a .bytes .now) (λ t. examOf t (a .register) (a .k) (a .list .now)) _ _ (loaded-as _ _ _ (o .0) (omega arith)) _ _ (c .before .before .before .before .before .if1 .left) (rw (loaded-front _ _ _ _ o (c .before .before .before .before .before .if1 .left)) at (c .before .before .checked .ensures))
+
+pub exam-spec : {M : Type 1} → statement M
+exam-spec =
+    tie.close
+    (tie.spec
+    slice-aggregate-read
+    read-requires
+    refusal-requires
+    same-length
+    returns
+    mul-end
+    array-share-prefix-table
+    slice-aggregate-checked
+    checked-requires
+    same-length-2
+    returns-2)

@@ -1,0 +1,4 @@
+-- What the programs bench and exam print.
+pub mod Sheet
+pub mod Pages
+pub mod Files

@@ -1,0 +1,66 @@
+-- What the programs bench and exam print of a table's register: a heading, the answers to the three questions, the orders found, and a check of an order.
+-- Assumes nothing.
+use Prim.Native.Nat.{ℕ}
+use mathlib.Core.Bool.{cond}
+use mathlib.Core.List.{List, [], _∷_, _++_}
+use lib.Dec.{eqb}
+use lib.ListN.{take, replicate}
+use Rattle.history.specs.declared.Answer.{Answer}
+use Rattle.history.specs.Table.{largestCount}
+use Rattle.history.specs.Answer.{numbers}
+use Rattle.methods.specs.Mark.{Outcome, mark}
+use Rattle.orders.specs.Check.{check}
+use Rattle.marks.specs.Marks.{mostTrials}
+use Rattle.text.specs.Decimal.{line}
+
+-- the heading line, in ASCII: the number of the question, and the four fields of an answer by their names
+abbrev pub heading : List ℕ
+heading =
+    113 ∷ 117 ∷ 101 ∷ 115 ∷ 116 ∷ 105 ∷ 111 ∷ 110 ∷ 44  -- "question,"
+    ∷ 99 ∷ 111 ∷ 100 ∷ 101 ∷ 44  -- "code,"
+    ∷ 114 ∷ 111 ∷ 119 ∷ 44  -- "row,"
+    ∷ 114 ∷ 111 ∷ 119 ∷ 115 ∷ 44  -- "rows,"
+    ∷ 116 ∷ 114 ∷ 105 ∷ 97 ∷ 108 ∷ 115 ∷ 10  -- "trials"
+    ∷ []
+
+-- the marking call with a list of 1,024 places inside (01, "Files, program, C host")
+unfoldable pub outcomeTo : List ℕ → ℕ → ℕ → ℕ → Outcome
+outcomeTo t register question allowance = mark t register question allowance (replicate largestCount 0)
+
+-- a line of the question's number and the four fields of its answer
+unfoldable pub answerLine : ℕ → Answer → List ℕ
+answerLine question a = line (question ∷ numbers a)
+
+-- "order," in ASCII, and the line of an order, which only a fresh mark has: behind the question's number the rows at the front of the list
+abbrev pub orderWord : List ℕ
+orderWord = 111 ∷ 114 ∷ 100 ∷ 101 ∷ 114 ∷ 44 ∷ []
+
+unfoldable pub orderLine : ℕ → Outcome → List ℕ
+orderLine question o = cond (eqb (o .answer .code) 0) (orderWord ++ line (question ∷ take (o .answer .rows) (o .list))) []
+
+-- the lines of questions 1, 2 and 3
+unfoldable pub answersOf : Answer → Answer → Answer → List ℕ
+answersOf one two three = answerLine 1 one ++ answerLine 2 two ++ answerLine 3 three
+
+unfoldable pub ordersOf : Outcome → Outcome → Outcome → List ℕ
+ordersOf one two three = orderLine 1 one ++ orderLine 2 two ++ orderLine 3 three
+
+-- what is printed of three outcomes
+unfoldable pub pageOf : Outcome → Outcome → Outcome → List ℕ
+pageOf one two three = heading ++ answersOf (one .answer) (two .answer) (three .answer) ++ ordersOf one two three
+
+-- THE SHEET: what bench prints
+unfoldable pub sheetOf : List ℕ → ℕ → ℕ → List ℕ
+sheetOf t register allowance =
+    pageOf (outcomeTo t register 1 allowance) (outcomeTo t register 2 allowance) (outcomeTo t register 3 allowance)
+
+-- "check," in ASCII, and the line of a check of an order: its code and its row field
+abbrev pub checkWord : List ℕ
+checkWord = 99 ∷ 104 ∷ 101 ∷ 99 ∷ 107 ∷ 44 ∷ []
+
+unfoldable pub checkLine : Answer → List ℕ
+checkLine a = checkWord ++ line (a .code ∷ a .row ∷ [])
+
+-- THE EXAM: the sheet, with an allowance that is enough for every register, and the check of a given order
+unfoldable pub examOf : List ℕ → ℕ → ℕ → List ℕ → List ℕ
+examOf t register k list = sheetOf t register mostTrials ++ checkLine (check t register k list)
