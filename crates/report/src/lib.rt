@@ -6,6 +6,8 @@ ghost use Prim.Native.Nat.{ℕ, _+_, _*_, _≤_, _<_, _^_};
 ghost use lib.ListN.{length};
 ghost use lib.Seq.{sets};
 ghost use Rattle.text.specs.Decimal.{line, linesOf};
+ghost use Rattle.files.specs.Records.{tableOf};
+ghost use Rattle.summary.specs.Summary.{Meant};
 ghost use Rattle.report.specs.Texts.{Printed, refusedLine};
 ghost use Rattle.report.specs.Report.{header, reportOf, reportAnswer, reportAfter};
 ghost use Rattle.report.specs.Files.{fileText};
@@ -82,9 +84,10 @@ fn headed(numbers: &[u64], k: usize, out: &mut [u8]) -> Answer
     Answer::passed(length as u64)
 }
 
-// The report of a table.
+// The report of a table, and what the marks on its lines say.
 pub fn report(table: &[u64], out: &mut [u8]) -> Answer
-    ensures { λ r. ⌜ (r ≡ reportAnswer (now (table .entry)) (now (out .entry))) × (now (out .exit) ≡ reportAfter (now (table .entry)) (now (out .entry))) ⌝ }
+    ensures outcome { λ r. ⌜ (r ≡ reportAnswer (now (table .entry)) (now (out .entry))) × (now (out .exit) ≡ reportAfter (now (table .entry)) (now (out .entry))) ⌝ }
+    ensures said { λ _. ⌜ ((register : ℕ) → Meant (now (table .entry)) register) ⌝ }
 {
     let mut numbers = [0u64; 5120];
     let summed = summary::summary(table, &mut numbers);
@@ -96,9 +99,10 @@ pub fn report(table: &[u64], out: &mut [u8]) -> Answer
     headed(&numbers[..n], k, out)
 }
 
-// The report of a file, or the line of its refusal.
+// The report of a file, or the line of its refusal, and what the marks on its lines say.
 pub fn road(bytes: &[u8], out: &mut [u8]) -> Answer
-    ensures { λ r. ⌜ Printed (fileText (now (bytes .entry)) reportOf) (now (out .entry)) r (now (out .exit)) ⌝ }
+    ensures text { λ r. ⌜ Printed (fileText (now (bytes .entry)) reportOf) (now (out .entry)) r (now (out .exit)) ⌝ }
+    ensures said { λ _. ⌜ ((register : ℕ) → Meant (tableOf (now (bytes .entry))) register) ⌝ }
 {
     let mut table = [0u64; 5120];
     let loaded = files::read(bytes, &mut table);

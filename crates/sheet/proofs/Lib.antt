@@ -2,3 +2,4 @@
 pub mod Parts
 pub mod Bounds
 pub mod Making
+pub mod Showing

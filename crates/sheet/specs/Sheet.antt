@@ -1,6 +1,8 @@
 -- What the programs bench and exam print of a table's register: a heading, the answers to the three questions, the orders found, and a check of an order.
 -- Assumes nothing.
 use Prim.Native.Nat.{ℕ}
+use mathlib.Core.Path.{_≡_}
+use mathlib.Core.Logic.{_↔_}
 use mathlib.Core.Bool.{cond}
 use mathlib.Core.List.{List, [], _∷_, _++_}
 use lib.Dec.{eqb}
@@ -9,7 +11,8 @@ use Rattle.history.specs.declared.Answer.{Answer}
 use Rattle.history.specs.Table.{largestCount}
 use Rattle.history.specs.Answer.{numbers}
 use Rattle.methods.specs.Mark.{Outcome, mark}
-use Rattle.orders.specs.Check.{check}
+use Rattle.meaning.specs.Demand.{Demand}
+use Rattle.orders.specs.Check.{check, Accepted}
 use Rattle.marks.specs.Marks.{mostTrials}
 use Rattle.text.specs.Decimal.{line}
 
@@ -54,6 +57,11 @@ unfoldable pub sheetOf : List ℕ → ℕ → ℕ → List ℕ
 sheetOf t register allowance =
     pageOf (outcomeTo t register 1 allowance) (outcomeTo t register 2 allowance) (outcomeTo t register 3 allowance)
 
+-- what its marks and orders say: demand 3 of each outcome
+abbrev pub Shown : List ℕ → ℕ → ℕ → Type 0
+Shown t register allowance =
+    (question : ℕ) → Demand t register question allowance (replicate largestCount 0) (outcomeTo t register question allowance)
+
 -- "check," in ASCII, and the line of a check of an order: its code and its row field
 abbrev pub checkWord : List ℕ
 checkWord = 99 ∷ 104 ∷ 101 ∷ 99 ∷ 107 ∷ 44 ∷ []
@@ -64,3 +72,7 @@ checkLine a = checkWord ++ line (a .code ∷ a .row ∷ [])
 -- THE EXAM: the sheet, with an allowance that is enough for every register, and the check of a given order
 unfoldable pub examOf : List ℕ → ℕ → ℕ → List ℕ → List ℕ
 examOf t register k list = sheetOf t register mostTrials ++ checkLine (check t register k list)
+
+-- what its check says: code 0 exactly where the list is a valid k-atomic order of a register that passes the screening
+abbrev pub Told : List ℕ → ℕ → ℕ → List ℕ → Type 0
+Told t register k list = (check t register k list .code ≡ 0) ↔ Accepted k t register list

@@ -4,8 +4,10 @@ use history::Row;
 ghost use mathlib.Core.Path.{_≡_};
 ghost use Prim.Native.Nat.{_+_, _≤_, _<_};
 ghost use lib.ListN.{length, replicate};
+ghost use Rattle.files.specs.Records.{tableOf};
+ghost use Rattle.marks.specs.Marks.{mostTrials};
 ghost use Rattle.report.specs.Texts.{Printed};
-ghost use Rattle.sheet.specs.Sheet.{outcomeTo, answerLine, answersOf, sheetOf, checkLine, examOf};
+ghost use Rattle.sheet.specs.Sheet.{outcomeTo, answerLine, answersOf, sheetOf, Shown, checkLine, examOf, Told};
 ghost use Rattle.sheet.specs.Files.{benchOf, examFile};
 ghost use Rattle.sheet.specs.Pages.{Put, places, room, Page, orderOf};
 
@@ -111,7 +113,8 @@ fn hand_out(text: &[u8], out: &mut [u8]) -> Answer
 
 // The sheet of a register, with an allowance for LBT.
 pub fn sheet(table: &[u64], register: u64, allowance: u64, out: &mut [u8]) -> Answer
-    ensures { λ r. ⌜ Printed (sheetOf (now (table .entry)) register allowance) (now (out .entry)) r (now (out .exit)) ⌝ }
+    ensures text { λ r. ⌜ Printed (sheetOf (now (table .entry)) register allowance) (now (out .entry)) r (now (out .exit)) ⌝ }
+    ensures shown { λ _. ⌜ Shown (now (table .entry)) register allowance ⌝ }
 {
     let mut whole = [0u8; ROOM];
     let length = put_sheet(table, register, allowance, &mut whole);
@@ -120,7 +123,9 @@ pub fn sheet(table: &[u64], register: u64, allowance: u64, out: &mut [u8]) -> An
 
 // The sheet of a register, and the check of an order of it.
 pub fn checked(table: &[u64], register: u64, k: u64, list: &[u64], out: &mut [u8]) -> Answer
-    ensures { λ r. ⌜ Printed (examOf (now (table .entry)) register k (now (list .entry))) (now (out .entry)) r (now (out .exit)) ⌝ }
+    ensures text { λ r. ⌜ Printed (examOf (now (table .entry)) register k (now (list .entry))) (now (out .entry)) r (now (out .exit)) ⌝ }
+    ensures shown { λ _. ⌜ Shown (now (table .entry)) register mostTrials ⌝ }
+    ensures told { λ _. ⌜ Told (now (table .entry)) register k (now (list .entry)) ⌝ }
 {
     let mut whole = [0u8; ROOM];
     let next = put_sheet(table, register, MOST_TRIALS, &mut whole);
@@ -131,7 +136,8 @@ pub fn checked(table: &[u64], register: u64, k: u64, list: &[u64], out: &mut [u8
 
 // The sheet of a register of a history file, or the line of a refused file.
 pub fn bench(bytes: &[u8], register: u64, allowance: u64, out: &mut [u8]) -> Answer
-    ensures { λ r. ⌜ Printed (benchOf (now (bytes .entry)) register allowance) (now (out .entry)) r (now (out .exit)) ⌝ }
+    ensures text { λ r. ⌜ Printed (benchOf (now (bytes .entry)) register allowance) (now (out .entry)) r (now (out .exit)) ⌝ }
+    ensures shown { λ _. ⌜ Shown (tableOf (now (bytes .entry))) register allowance ⌝ }
 {
     let mut table = [0u64; NUMBERS];
     let read = files::read(bytes, &mut table);
@@ -144,7 +150,9 @@ pub fn bench(bytes: &[u8], register: u64, allowance: u64, out: &mut [u8]) -> Ans
 
 // The same with the check of an order.
 pub fn exam(bytes: &[u8], register: u64, k: u64, list: &[u64], out: &mut [u8]) -> Answer
-    ensures { λ r. ⌜ Printed (examFile (now (bytes .entry)) register k (now (list .entry))) (now (out .entry)) r (now (out .exit)) ⌝ }
+    ensures text { λ r. ⌜ Printed (examFile (now (bytes .entry)) register k (now (list .entry))) (now (out .entry)) r (now (out .exit)) ⌝ }
+    ensures shown { λ _. ⌜ Shown (tableOf (now (bytes .entry))) register mostTrials ⌝ }
+    ensures told { λ _. ⌜ Told (tableOf (now (bytes .entry))) register k (now (list .entry)) ⌝ }
 {
     let mut table = [0u64; NUMBERS];
     let read = files::read(bytes, &mut table);

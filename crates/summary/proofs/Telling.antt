@@ -13,7 +13,7 @@ use Rattle.history.proofs.Refusals.{Coded, code-no-fault, no-fault-answer}
 use Rattle.methods.specs.Mark.{written}
 use Rattle.marks.proofs.Saying.{answer-said}
 use Rattle.summary.specs.Registers.{registers}
-use Rattle.summary.specs.Summary.{entry, summaryOf, summaryTests, summaryAnswer, summaryList, Tells}
+use Rattle.summary.specs.Summary.{entry, summaryOf, summaryTests, summaryAnswer, summaryList, Meant, Tells}
 use Rattle.summary.proofs.Entries.{entry-long}
 
 -- number j of the w numbers that element i gives
@@ -32,6 +32,14 @@ flat-at f w h (x ∷ l) rest (suc i) j a b =
     ∙ ap (λ (m : List ℕ). getD m (length (f x) + (i * w + j)) 0) (append-assoc (f x) (flatMap f l) rest)
     ∙ getD-append-add (f x) (flatMap f l ++ rest) (i * w + j) 0
     ∙ flat-at f w h l rest i j (omega arith) b
+
+-- what the marks of a register say: neither question counts trials
+pub meant : (t : List ℕ) (register : ℕ) → Meant t register
+meant t register =
+    record {
+      one = answer-said t register 1 0 (λ (q : 1 ≡ 2). absurd (omega arith));
+      two = answer-said t register 3 0 (λ (q : 3 ≡ 2). absurd (omega arith));
+    }
 
 module _ (t list : List ℕ) where
   pub tests-coded : Coded (summaryTests t (length list))
@@ -70,8 +78,8 @@ module _ (t list : List ℕ) where
         let e : i * 5 ≡ i * 5 + 0 = omega arith in
         let number : getD after (i * 5) 0 ≡ r = ap (λ (k : ℕ). getD after k 0) e ∙ number-at 0 (omega arith) in
         record {
-          one = rw (number, number-at 2 (omega arith)) (answer-said t r 1 0 (λ (q : 1 ≡ 2). absurd (omega arith)));
-          two = rw (number, number-at 3 (omega arith)) (answer-said t r 3 0 (λ (q : 3 ≡ 2). absurd (omega arith)));
+          one = rw (number, number-at 2 (omega arith)) (meant t r .one);
+          two = rw (number, number-at 3 (omega arith)) (meant t r .two);
         }
 
   -- THE CONTRACT, from the answer and the list after the call

@@ -37,6 +37,11 @@ summaryAnswer t list = firstMet (summaryTests t (length list)) (passed (length (
 unfoldable pub summaryList : List ℕ → List ℕ → List ℕ
 summaryList t list = cond (eqb (summaryAnswer t list .code) (number fresh)) (written (summaryOf t) list) list
 
+-- what the two marks of a register say
+pub record Meant (t : List ℕ) (register : ℕ) : Type 0 where
+  pub one : Said t register 1 (answerTo t register 1 0 .code)
+  pub two : Said t register 3 (answerTo t register 3 0 .code)
+
 -- what the marks of the entry at a place of the list say
 pub record Tells (t list : List ℕ) (i : ℕ) : Type 0 where
   pub one : Said t (getD list (i * 5) 0) 1 (getD list (i * 5 + 2) 0)

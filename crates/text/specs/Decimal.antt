@@ -1,4 +1,5 @@
--- Numbers as decimal text: the digits of one, a line of several, lines one after the other.
+-- Numbers as decimal text: the digits of one, a line of several, lines one after the other (document 01, "Files, program, C host": "Numbers are
+-- printed in decimal, every line ends in a line feed").
 -- Assumes nothing.
 use Prim.Native.Nat.{ℕ, zero, suc, _+_, _/_, _%_}
 use mathlib.Core.Bool.{cond}

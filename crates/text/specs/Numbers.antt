@@ -1,4 +1,4 @@
--- Numbers read out of decimal text: one, and a list of them, one a line.
+-- Numbers read out of decimal text: one, as an argument of a program, and a list of them, one a line, as in an order file.
 -- Assumes nothing.
 use Prim.Native.Nat.{ℕ, zero, suc, _+_, _-_, _*_, _^_}
 use mathlib.Core.Bool.{Bool, true, false, cond}

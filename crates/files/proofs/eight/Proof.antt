@@ -1,13 +1,13 @@
 -- The eight bytes are those of the field (`field-list`); the sums are compared by `omega`.
 use Prim.Native.Nat.{ℕ}
+use mathlib.Core.Path.{ap}
 use native.Mathlib.Nat.{add-zero}
 use native.Mathlib.Omega.{arith}
-use mathlib.Core.Path.{ap}
 use lib.ListN.{getD}
+use borrow.Author.Needs.{needs}
 use Rattle.lists.specs.Lists.{from}
 use Rattle.files.specs.Records.{valueOf}
 use Rattle.files.proofs.Numbers.{field-list}
-use borrow.Author.Needs.{needs}
 use Rattle.files.proofs.eight.Statement.{statement}
 use Rattle.files.proofs.eight.Tie as tie
 

@@ -1,11 +1,11 @@
 -- The first two tests return at once; what the third finds is refused, else the test of the room answers.
 use Prim.Native.Nat.{_/_, _%_}
-use borrow.Author.Tests.{eq-eqb, ne-eqb, lt-ltb, le-ltb}
 use lib.ListN.{length}
+use borrow.Author.Tests.{eq-eqb, ne-eqb, lt-ltb, le-ltb}
+use borrow.Author.Needs.{needs}
 use Rattle.history.specs.Table.{largestCount}
 use Rattle.history.specs.Answer.{firstMet}
 use Rattle.files.specs.Files.{writeTests}
-use borrow.Author.Needs.{needs}
 use Rattle.files.proofs.examine.Statement.{statement}
 use Rattle.files.proofs.examine.Tie as tie
 

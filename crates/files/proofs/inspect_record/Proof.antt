@@ -3,13 +3,13 @@ use Prim.Native.Nat.{_*_}
 use mathlib.Core.Path.{_≡_, sym, _∙_}
 use mathlib.Core.Bool.{true, false}
 use borrow.Author.Tests.{eq-eqb, ne-eqb, lt-ltb, le-leb, lt-leb}
+use borrow.Author.Needs.{needs}
 use Rattle.history.specs.Table.{largestCount, operation}
 use Rattle.history.specs.Answer.{firstMet}
 use Rattle.history.specs.Screen.{wrongKind}
 use Rattle.files.specs.Records.{field, recordAt}
 use Rattle.files.specs.Files.{left, recordTests}
 use Rattle.files.proofs.Passing.{kind-test, past-length}
-use borrow.Author.Needs.{needs}
 use Rattle.files.proofs.inspect_record.Statement.{statement}
 use Rattle.files.proofs.inspect_record.Tie as tie
 

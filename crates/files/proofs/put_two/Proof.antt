@@ -2,9 +2,9 @@
 use Prim.Native.Nat.{_%_, _/_}
 use native.Mathlib.Omega.{arith}
 use lib.ListN.{length-set}
+use borrow.Author.Needs.{needs}
 use Rattle.files.specs.Records.{littleEndian}
 use Rattle.files.proofs.Storing.{stores-first}
-use borrow.Author.Needs.{needs}
 use Rattle.files.proofs.put_two.Statement.{statement}
 use Rattle.files.proofs.put_two.Tie as tie
 

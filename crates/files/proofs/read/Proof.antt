@@ -1,12 +1,12 @@
 -- The answer is the defined one: a refused record, else what the test of the room says. The second clause is the theorem `written-read`.
 use mathlib.Core.Path.{sym, _∙_}
 use native.Mathlib.Omega.{arith}
+use borrow.Author.Needs.{needs}
 use Rattle.files.specs.Records.{tableOf, Bytes}
 use Rattle.files.specs.Files.{readAnswer, readTable}
 use Rattle.files.proofs.Calls.{after-refused, after-fresh, code-of, read-refused, read-judged}
 use Rattle.files.proofs.Passing.{read-whole}
 use Rattle.files.proofs.Undo.{written-read}
-use borrow.Author.Needs.{needs}
 use Rattle.files.proofs.read.Statement.{statement}
 use Rattle.files.proofs.read.Tie as tie
 

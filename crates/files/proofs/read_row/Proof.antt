@@ -3,9 +3,9 @@ use Prim.Native.Nat.{_*_}
 use native.Mathlib.Nat.{add-zero}
 use native.Mathlib.Omega.{arith}
 use lib.ListN.{length-set}
+use borrow.Author.Needs.{needs}
 use Rattle.files.specs.Records.{recordAt, cells}
 use Rattle.files.proofs.Storing.{stores-sets}
-use borrow.Author.Needs.{needs}
 use Rattle.files.proofs.read_row.Statement.{statement}
 use Rattle.files.proofs.read_row.Tie as tie
 

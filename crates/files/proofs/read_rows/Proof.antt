@@ -3,8 +3,8 @@ use Prim.Native.Nat.{ℕ, _-_}
 use mathlib.Core.Path.{refl, ap, _∙_}
 use mathlib.Core.List.{List, _++_}
 use native.Mathlib.Omega.{arith}
-use borrow.Author.Needs.{needs}
 use lib.ListN.{length, drop}
+use borrow.Author.Needs.{needs}
 use Rattle.files.specs.Records.{recordAt, cells, tableOf}
 use Rattle.files.proofs.Blocks.{blocks, length-blocks}
 use Rattle.files.proofs.Storing.{Filling, fill-none, fill-long, fill-more, fill-end}

@@ -1,6 +1,6 @@
 use borrow.Author.Tests.{lt-ltb, le-ltb}
-use Rattle.history.specs.Answer.{firstMet}
 use borrow.Author.Needs.{needs}
+use Rattle.history.specs.Answer.{firstMet}
 use Rattle.files.proofs.room_for.Statement.{statement}
 use Rattle.files.proofs.room_for.Tie as tie
 

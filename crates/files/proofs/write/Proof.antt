@@ -1,12 +1,12 @@
 -- The answer is the defined one, and the second clause is the theorem `read-written`.
 use mathlib.Core.Path.{_≡_, sym, _∙_}
 use native.Mathlib.Omega.{arith}
+use borrow.Author.Needs.{needs}
 use Rattle.files.specs.Records.{fileOf, Words}
 use Rattle.files.specs.Files.{writeAnswer, writeBytes}
 use Rattle.files.proofs.Calls.{after-refused, after-fresh, code-of}
 use Rattle.files.proofs.Passing.{write-tabular}
 use Rattle.files.proofs.Undo.{read-written}
-use borrow.Author.Needs.{needs}
 use Rattle.files.proofs.write.Statement.{statement}
 use Rattle.files.proofs.write.Tie as tie
 

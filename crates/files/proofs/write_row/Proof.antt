@@ -1,8 +1,8 @@
 -- The six calls store the six fields, one behind the other (`record-stores`).
 use Prim.Native.Nat.{_*_}
+use borrow.Author.Needs.{needs}
 use Rattle.history.specs.Table.{rowAt}
 use Rattle.files.proofs.Storing.{record-stores}
-use borrow.Author.Needs.{needs}
 use Rattle.files.proofs.write_row.Statement.{statement}
 use Rattle.files.proofs.write_row.Tie as tie
 

@@ -1,3 +1,4 @@
+use Rattle.summary.proofs.Telling.{meant}
 -- The summary refuses what the report refuses, or leaves its numbers at the front of the array.
 use native.Mathlib.Omega.{arith}
 use borrow.Author.Needs.{needs}
@@ -12,7 +13,7 @@ summary-requires : tie.Need-summary-requires
 summary-requires c κs = search needs
 
 returns : tie.Need-returns
-returns c = report-refused _ _ _ _ (c .before .before .before .summary .ensures .0) (c .if1 .taken)
+returns c = (report-refused _ _ _ _ (c .before .before .before .summary .ensures .0) (c .if1 .taken), meant _)
 
 mul-n : tie.Need-mul-n
 mul-n c = omega (arith, lines-few _ (c .before .before .before .before .before .before .before .args .out .now) _ _ (c .before .before .before .summary .ensures .0) (omega arith))
@@ -30,7 +31,7 @@ same-length : tie.Need-same-length
 same-length c = search needs
 
 returns-2 : tie.Need-returns-2
-returns-2 c = report-printed _ _ _ _ (c .before .before .before .before .before .before .before .before .summary .ensures .0) (omega arith) _ _ (c .before .before .headed .ensures)
+returns-2 c = (report-printed _ _ _ _ (c .before .before .before .before .before .before .before .before .summary .ensures .0) (omega arith) _ _ (c .before .before .headed .ensures), meant _)
 
 pub report-spec : {M : Type 1} → statement M
 report-spec =

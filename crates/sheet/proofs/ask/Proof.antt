@@ -1,10 +1,11 @@
+-- The marking call leaves its list behind the question's number.
 use Prim.Native.Nat.{ℕ}
 use mathlib.Core.Path.{ap, _∙_}
 use native.Mathlib.Omega.{arith}
 use lib.ListN.{length, length-set, length-replicate}
+use borrow.Author.Needs.{needs}
 use Rattle.sheet.specs.Pages.{places}
 use Rattle.sheet.proofs.Making.{made}
-use borrow.Author.Needs.{needs}
 use Rattle.sheet.proofs.ask.Statement.{statement}
 use Rattle.sheet.proofs.ask.Tie as tie
 

@@ -1,9 +1,11 @@
+use Rattle.sheet.proofs.Showing.{shown}
+-- The file is refused, or its table's sheet is printed.
 use native.Mathlib.Omega.{arith}
+use borrow.Author.Needs.{needs}
 use Rattle.files.proofs.Loading.{loaded-as, loaded-small, loaded-front, loaded-in, loaded-long}
 use Rattle.report.proofs.Filing.{file-refused, file-printed}
 use Rattle.sheet.specs.Sheet.{sheetOf}
 use Rattle.sheet.specs.Files.{benchOf}
-use borrow.Author.Needs.{needs}
 use Rattle.sheet.proofs.bench.Statement.{statement}
 use Rattle.sheet.proofs.bench.Tie as tie
 
@@ -21,7 +23,7 @@ same-length c = search needs
 
 returns : tie.Need-returns
 unfolding benchOf
-returns c = let a = c .before .before .before .before .before .before .before .before .before .before .before .args in file-refused (a .bytes .now) (λ t. sheetOf t (a .register) (a .allowance)) _ _ (loaded-as _ _ _ (c .before .before .before .before .before .before .before .read .ensures .0 .0) (omega arith)) _ _ (c .before .before .before .before .if1 .taken) (c .before .before .refusal .ensures)
+returns c = let a = c .before .before .before .before .before .before .before .before .before .before .before .args in (file-refused (a .bytes .now) (λ t. sheetOf t (a .register) (a .allowance)) _ _ (loaded-as _ _ _ (c .before .before .before .before .before .before .before .read .ensures .0 .0) (omega arith)) _ _ (c .before .before .before .before .if1 .taken) (c .before .before .refusal .ensures), shown _ _ _)
 
 mul-end : tie.Need-mul-end
 mul-end c = omega (arith, loaded-small (c .before .before .before .before .before .before .before .args .bytes .now) _ (c .before .before .before .read .result) (c .before .before .before .read .last .1 .0) (c .before .before .before .read .ensures .0) (c .if1 .left))
@@ -40,7 +42,7 @@ same-length-2 c = search needs
 
 returns-2 : tie.Need-returns-2
 unfolding benchOf
-returns-2 c = let a = c .before .before .before .before .before .before .before .before .before .before .before .before .args in let o = c .before .before .before .before .before .before .before .before .read .ensures .0 in file-printed (a .bytes .now) (λ t. sheetOf t (a .register) (a .allowance)) _ _ (loaded-as _ _ _ (o .0) (omega arith)) _ _ (c .before .before .before .before .before .if1 .left) (rw (loaded-front _ _ _ _ o (c .before .before .before .before .before .if1 .left)) at (c .before .before .sheet .ensures))
+returns-2 c = let a = c .before .before .before .before .before .before .before .before .before .before .before .before .args in let o = c .before .before .before .before .before .before .before .before .read .ensures .0 in (file-printed (a .bytes .now) (λ t. sheetOf t (a .register) (a .allowance)) _ _ (loaded-as _ _ _ (o .0) (omega arith)) _ _ (c .before .before .before .before .before .if1 .left) (rw (loaded-front _ _ _ _ o (c .before .before .before .before .before .if1 .left)) at (c .before .before .sheet .ensures .0)), shown _ _ _)
 
 pub bench-spec : {M : Type 1} → statement M
 bench-spec =

@@ -1,15 +1,17 @@
+use Rattle.sheet.proofs.Showing.{shown, told}
+-- The sheet and the check are two parts of one text, which the buffer inside holds.
 use Prim.Native.Nat.{ℕ}
-use native.Mathlib.Omega.{arith}
 use mathlib.Core.Path.{sym}
+use native.Mathlib.Omega.{arith}
 use lib.ListN.{replicate, length-replicate}
 use lib.Seq.{length-take-le}
+use borrow.Author.Needs.{needs}
 use Rattle.marks.specs.Marks.{mostTrials}
 use Rattle.orders.specs.Check.{check}
 use Rattle.sheet.specs.Sheet.{sheetOf, checkLine, examOf}
 use Rattle.sheet.specs.Pages.{room}
 use Rattle.sheet.proofs.Parts.{put-then, put-taken, same-printed}
 use Rattle.sheet.proofs.Bounds.{sheet-bound, check-bound, exam-bound}
-use borrow.Author.Needs.{needs}
 use Rattle.sheet.proofs.checked.Statement.{statement}
 use Rattle.sheet.proofs.checked.Tie as tie
 
@@ -47,7 +49,7 @@ returns c =
     let whole =
     put-then (sheetOf (a .table .now) (a .register) mostTrials) (checkLine (check (a .table .now) (a .register) (a .k) (a .list .now))) (replicate room 0) 0 (c .before .before .before .before .before .before .before .before .before .before .put-sheet .ensures) (rw (c .before .before .before .before .before .before .before .before .check .ensures .0) at (c .before .before .before .before .before .before .put-check .ensures))
     in
-    same-printed _ _ _ _ _ (put-taken (examOf (a .table .now) (a .register) (a .k) (a .list .now)) (replicate room 0) whole (omega (arith, exam-bound (a .table .now) (a .register) (a .k) (a .list .now), length-replicate {A = ℕ} room 0))) (c .before .before .hand-out .ensures)
+    (same-printed _ _ _ _ _ (put-taken (examOf (a .table .now) (a .register) (a .k) (a .list .now)) (replicate room 0) whole (omega (arith, exam-bound (a .table .now) (a .register) (a .k) (a .list .now), length-replicate {A = ℕ} room 0))) (c .before .before .hand-out .ensures), (shown _ _ _, told _ _ _ _))
 
 pub checked-spec : {M : Type 1} → statement M
 checked-spec =

@@ -1,6 +1,7 @@
+-- Five numbers are one line.
+use borrow.Author.Needs.{needs}
 use Rattle.sheet.proofs.Bounds.{line-room}
 use Rattle.sheet.specs.Sheet.{answerLine}
-use borrow.Author.Needs.{needs}
 use Rattle.sheet.proofs.put_answer.Statement.{statement}
 use Rattle.sheet.proofs.put_answer.Tie as tie
 

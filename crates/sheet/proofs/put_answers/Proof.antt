@@ -1,9 +1,10 @@
+-- Three lines, one behind another.
 use mathlib.Core.List.{_++_}
 use native.Mathlib.Omega.{arith}
+use borrow.Author.Needs.{needs}
 use Rattle.sheet.specs.Sheet.{answerLine, answersOf}
 use Rattle.sheet.proofs.Parts.{put-then}
 use Rattle.sheet.proofs.Bounds.{answer-bound}
-use borrow.Author.Needs.{needs}
 use Rattle.sheet.proofs.put_answers.Statement.{statement}
 use Rattle.sheet.proofs.put_answers.Tie as tie
 

@@ -1,10 +1,11 @@
+-- The word and the line are two parts of one text.
 use mathlib.Core.List.{[], _∷_}
 use native.Mathlib.Omega.{arith}
+use borrow.Author.Needs.{needs}
 use Rattle.text.specs.Decimal.{line}
 use Rattle.sheet.proofs.Bounds.{line-room}
 use Rattle.sheet.specs.Sheet.{checkWord, checkLine}
 use Rattle.sheet.proofs.Parts.{put-then}
-use borrow.Author.Needs.{needs}
 use Rattle.sheet.proofs.put_check.Statement.{statement}
 use Rattle.sheet.proofs.put_check.Tie as tie
 

@@ -1,15 +1,16 @@
+-- The question and the order's rows stand at the front of the page.
 use Prim.Native.Nat.{_+_}
 use mathlib.Core.Path.{refl, sym}
 use native.Mathlib.Omega.{arith}
-use borrow.Author.Tests.{eq-eqb, ne-eqb}
 use lib.ListN.{take, length-take}
 use lib.Seq.{length-take-le}
+use borrow.Author.Tests.{eq-eqb, ne-eqb}
+use borrow.Author.Needs.{needs}
 use Rattle.text.specs.Decimal.{line}
 use Rattle.text.proofs.Joins.{line-length}
 use Rattle.sheet.specs.Sheet.{orderWord}
 use Rattle.sheet.specs.Pages.{orderOf}
 use Rattle.sheet.proofs.Parts.{put-then}
-use borrow.Author.Needs.{needs}
 use Rattle.sheet.proofs.put_order.Statement.{statement}
 use Rattle.sheet.proofs.put_order.Tie as tie
 

@@ -1,8 +1,9 @@
+-- Five parts, one behind another, each within the room that is left.
 use native.Mathlib.Omega.{arith}
+use borrow.Author.Needs.{needs}
 use Rattle.sheet.specs.Sheet.{sheetOf}
 use Rattle.sheet.proofs.Parts.{page-put}
 use Rattle.sheet.proofs.Bounds.{answers-bound, order-of-bound}
-use borrow.Author.Needs.{needs}
 use Rattle.sheet.proofs.put_sheet.Statement.{statement}
 use Rattle.sheet.proofs.put_sheet.Tie as tie
 

@@ -1,13 +1,15 @@
+use Rattle.sheet.proofs.Showing.{shown}
+-- The buffer inside holds every sheet.
 use Prim.Native.Nat.{ℕ}
-use native.Mathlib.Omega.{arith}
 use mathlib.Core.Path.{sym}
+use native.Mathlib.Omega.{arith}
 use lib.ListN.{replicate, length-replicate}
 use lib.Seq.{length-take-le}
+use borrow.Author.Needs.{needs}
 use Rattle.sheet.specs.Sheet.{sheetOf}
 use Rattle.sheet.specs.Pages.{room}
 use Rattle.sheet.proofs.Parts.{put-taken, same-printed}
 use Rattle.sheet.proofs.Bounds.{sheet-bound}
-use borrow.Author.Needs.{needs}
 use Rattle.sheet.proofs.sheet.Statement.{statement}
 use Rattle.sheet.proofs.sheet.Tie as tie
 
@@ -32,7 +34,7 @@ same-length c = search needs
 returns : tie.Need-returns
 returns c =
     let a = c .before .before .before .before .before .before .before .before .before .before .args in
-    same-printed _ _ _ _ _ (put-taken (sheetOf (a .table .now) (a .register) (a .allowance)) (replicate room 0) (c .before .before .before .before .before .before .put-sheet .ensures) (omega (arith, sheet-bound (a .table .now) (a .register) (a .allowance), length-replicate {A = ℕ} room 0))) (c .before .before .hand-out .ensures)
+    (same-printed _ _ _ _ _ (put-taken (sheetOf (a .table .now) (a .register) (a .allowance)) (replicate room 0) (c .before .before .before .before .before .before .put-sheet .ensures) (omega (arith, sheet-bound (a .table .now) (a .register) (a .allowance), length-replicate {A = ℕ} room 0))) (c .before .before .hand-out .ensures), shown _ _ _)
 
 pub sheet-spec : {M : Type 1} → statement M
 sheet-spec =

@@ -1,21 +1,20 @@
 -- The digits before the last are written by the same function: the number of digits that are allowed falls.
+use Prim.Native.Nat.{ℕ, _<_, _-_, _/_}
 use mathlib.Core.Path.{_≡_, ap}
 use mathlib.Core.List.{[], _∷_, _++_}
-use lib.ListN.{length}
-use Rattle.text.specs.Decimal.{digits, digit}
-use Rattle.text.proofs.Digits.{digits-none, digits-last, digits-more, digits-more-length}
-use Rattle.lists.proofs.Stores.{sets-append}
 use native.Mathlib.Omega.{arith}
+use lib.ListN.{length, length-set}
 use borrow.Author.Needs.{needs}
-use lib.ListN.{length-set}
-use Prim.Native.Nat.{ℕ, _<_, _-_, _/_}
 use borrow.Fn.Kinds.{In}
 use borrow.Fn.PlainCycle.{Measures, is, falls, and}
+use Rattle.lists.proofs.Stores.{sets-append}
+use Rattle.text.specs.Decimal.{digits, digit}
+use Rattle.text.proofs.Digits.{digits-none, digits-last, digits-more, digits-more-length}
+use Rattle.text.proofs.+put_digits.{statement}
+use Rattle.text.proofs.+put_digits.Tie.{close}
 use Rattle.text.proofs.put_digits.Reads as put-digits
 use Rattle.text.proofs.put_digits.Kinds as put-digits-kinds
 use Rattle.text.proofs.+put_digits.Lts-put_digits as put-digits-lts
-use Rattle.text.proofs.+put_digits.{statement}
-use Rattle.text.proofs.+put_digits.Tie.{close}
 
 abbrev μ-put-digits : Measures 1 put-digits-kinds.ps ℕ
 μ-put-digits κs a = a .1 .0

@@ -1,9 +1,9 @@
 use Prim.Native.Nat.{_+_, _-_, _*_, _^_}
 use native.Mathlib.Omega.{arith}
 use borrow.Author.Tests.{lt-ltb, le-ltb, le-leb, lt-leb}
+use borrow.Author.Needs.{needs}
 use Rattle.lists.specs.Lists.{all}
 use Rattle.text.specs.Numbers.{isDigit, worth, held, says}
-use borrow.Author.Needs.{needs}
 use Rattle.text.proofs.appended.Statement.{statement}
 use Rattle.text.proofs.appended.Tie as tie
 

@@ -1,8 +1,8 @@
 -- The loop takes digits off the end: the whole has as many digits as were counted and are left (the invariant), by digits-last and digits-more-length.
 use Prim.Native.Nat.{_+_, _-_, _≤_}
-use lib.ListN.{length}
 use mathlib.Core.Path.{_≡_, ap}
 use native.Mathlib.Omega.{arith}
+use lib.ListN.{length}
 use Rattle.text.specs.Decimal.{digits, decimal}
 use Rattle.text.proofs.Digits.{digits-none, digits-last, digits-more-length}
 use Rattle.text.proofs.decimal_length.Statement.{statement}

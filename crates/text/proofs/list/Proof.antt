@@ -1,10 +1,10 @@
 use mathlib.Core.Path.{sym, _∙_}
 use lib.ListN.{length}
 use borrow.Author.Tests.{not-true, not-false}
-use Rattle.text.specs.Numbers.{counted, stored, leading}
-use Rattle.lists.proofs.Stores.{sets-front}
-use Rattle.text.proofs.Lines.{lines-bad, lines-good, leading-length}
 use borrow.Author.Needs.{needs}
+use Rattle.lists.proofs.Stores.{sets-front}
+use Rattle.text.specs.Numbers.{counted, stored, leading}
+use Rattle.text.proofs.Lines.{lines-bad, lines-good, leading-length}
 use Rattle.text.proofs.list.Statement.{statement}
 use Rattle.text.proofs.list.Tie as tie
 

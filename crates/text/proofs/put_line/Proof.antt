@@ -2,10 +2,10 @@ use mathlib.Core.Path.{refl, ap, sym}
 use mathlib.Core.List.{[], append-nil}
 use native.Mathlib.Omega.{arith}
 use lib.ListN.{length, length-append, drop, getD}
+use borrow.Author.Needs.{needs}
 use Rattle.text.specs.Decimal.{decimal, line}
 use Rattle.text.proofs.Joins.{rest, line-none, line-some}
 use Rattle.text.proofs.Putting.{put-none, put-more, put-end}
-use borrow.Author.Needs.{needs}
 use Rattle.text.proofs.put_line.Statement.{statement}
 use Rattle.text.proofs.put_line.Tie as tie
 

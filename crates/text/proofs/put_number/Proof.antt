@@ -1,5 +1,5 @@
-use Rattle.text.specs.Decimal.{decimal}
 use borrow.Author.Needs.{needs}
+use Rattle.text.specs.Decimal.{decimal}
 use Rattle.text.proofs.put_number.Statement.{statement}
 use Rattle.text.proofs.put_number.Tie as tie
 
