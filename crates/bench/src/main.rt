@@ -14,7 +14,7 @@ fn main() {
         console::complain(b"bench: ALLOWANCE is not a decimal number of 64 bits\n");
         return;
     };
-    let mut input = [0u8; 36900];
+    let mut input = [0u8; files::LONGEST];
     let got = console::take(libc::STDIN_FILENO, &mut input);
     if !got.sound {
         console::complain(b"bench: standard input cannot be read\n");

@@ -25,7 +25,7 @@ fn main() {
         return;
     }
     let rows = order.count;
-    let mut input = [0u8; 36900];
+    let mut input = [0u8; files::LONGEST];
     let got = console::take(libc::STDIN_FILENO, &mut input);
     if !got.sound {
         console::complain(b"exam: standard input cannot be read\n");

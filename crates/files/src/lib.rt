@@ -16,6 +16,9 @@ ghost use Rattle.history.specs.Screen.{wrongKind};
 ghost use Rattle.files.specs.Records.{littleEndian, field, begun, recordAt, recordOf, cells, tableOf, fileOf};
 ghost use Rattle.files.specs.Files.{recordTests, fileAnswer, roomTest, readAnswer, readTable, opsOf, writeTests, writeAnswer, writeBytes, WritesBack, ReadsBack};
 
+// A file of so many bytes has a whole 1,025th record, so that a longer one need not be looked at.
+pub const LONGEST: usize = 36900;
+
 // The bytes of a record, with its length field.
 const RECORD: usize = 36;
 

@@ -30,6 +30,9 @@ impl Row {
 
     pub const COLUMNS: usize = 5;
 
+    // The numbers of a table with the most rows.
+    pub const LARGEST_TABLE: usize = 5120;
+
     pub const REGISTER: usize = 0;
 
     pub const KIND: usize = 1;

@@ -1,4 +1,5 @@
 // One entry for a C host: a file's bytes, a register and a question, and the code comes back.
+use history::Row;
 ghost use mathlib.Core.Path.{_≡_};
 ghost use mathlib.Core.Logic.{_≢_};
 ghost use Rattle.history.specs.Answer.{number, short-list};
@@ -7,8 +8,6 @@ ghost use Rattle.files.specs.Files.{fileAnswer};
 ghost use Rattle.marks.specs.Marks.{Said};
 ghost use Rattle.host.specs.Host.{hostCode};
 
-const MOST_TRIALS: u64 = 524800;
-
 // The code of the file's refusal, else of the mark; what the mark says is `Said`.
 #[no_mangle]
 pub extern "C" fn valgrist_mark(bytes: &[u8], register: u64, question: u64) -> u64
@@ -16,12 +15,12 @@ pub extern "C" fn valgrist_mark(bytes: &[u8], register: u64, question: u64) -> u
     ensures said { λ r. ⌜ (fileAnswer (now (bytes .entry)) .code ≡ 0 → Said (tableOf (now (bytes .entry))) register question r) ⌝ }
     ensures room { λ r. ⌜ r ≢ number short-list ⌝ }
 {
-    let mut table = [0u64; 5120];
+    let mut table = [0u64; Row::LARGEST_TABLE];
     let loaded = files::read(bytes, &mut table);
     if loaded.code != 0 {
         return loaded.code;
     }
-    let n = (loaded.rows as usize) * 5;
-    let mark = marks::answer(&table[..n], register, question, MOST_TRIALS);
+    let n = (loaded.rows as usize) * Row::COLUMNS;
+    let mark = marks::answer(&table[..n], register, question, marks::MOST_TRIALS);
     mark.code
 }

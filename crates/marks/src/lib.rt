@@ -6,6 +6,9 @@ ghost use mathlib.Core.Logic.{_≢_};
 ghost use Rattle.history.specs.Answer.{number, short-list};
 ghost use Rattle.marks.specs.Marks.{answerTo, Ample, Said};
 
+// The trials that are enough for LBT on every register: W (W + 1) / 2 with 1,024 writes.
+pub const MOST_TRIALS: u64 = 524800;
+
 // The answer of the marking call alone; its order is dropped.
 pub fn answer(table: &[u64], register: u64, question: u64, allowance: u64) -> Answer
     ensures answer { λ r. ⌜ r ≡ answerTo (now (table .entry)) register question allowance ⌝ }

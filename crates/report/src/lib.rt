@@ -1,10 +1,12 @@
 // The report of a road: the header line, and a line for each register; or the line of a refused file.
 use history::Answer;
+use history::Row;
 ghost use mathlib.Core.Path.{_≡_};
 ghost use mathlib.Core.List.{[], _∷_, _++_};
 ghost use Prim.Native.Nat.{ℕ, _+_, _*_, _≤_, _<_, _^_};
 ghost use lib.ListN.{length};
 ghost use lib.Seq.{sets};
+ghost use Rattle.history.specs.Table.{largestCount};
 ghost use Rattle.text.specs.Decimal.{line, linesOf};
 ghost use Rattle.files.specs.Records.{tableOf};
 ghost use Rattle.summary.specs.Summary.{Meant};
@@ -37,7 +39,7 @@ pub fn refusal(answer: Answer, out: &mut [u8]) -> Answer
 // How many bytes k lines of five numbers take.
 fn lines_length(numbers: &[u64], k: usize) -> usize
     requires { ⌜ k * 5 ≤ length (now numbers) ⌝ }
-    requires { ⌜ k ≤ 1024 ⌝ }
+    requires { ⌜ k ≤ largestCount ⌝ }
     ensures { λ r. ⌜ r ≡ length (linesOf 5 k (now (numbers .entry))) ⌝ }
 {
     let mut total: usize = 0;
@@ -54,7 +56,7 @@ fn lines_length(numbers: &[u64], k: usize) -> usize
 // Writes k lines of five numbers from `at` on; the place behind them.
 fn put_lines(numbers: &[u64], k: usize, out: &mut [u8], at: usize) -> usize
     requires { ⌜ k * 5 ≤ length (now numbers) ⌝ }
-    requires { ⌜ k ≤ 1024 ⌝ }
+    requires { ⌜ k ≤ largestCount ⌝ }
     requires { ⌜ at + length (linesOf 5 k (now numbers)) ≤ length (now out) ⌝ }
     ensures { λ r. ⌜ (r ≡ at + length (linesOf 5 k (now (numbers .entry)))) × (now (out .exit) ≡ sets (now (out .entry)) at (linesOf 5 k (now (numbers .entry)))) ⌝ }
 {
@@ -72,14 +74,15 @@ fn put_lines(numbers: &[u64], k: usize, out: &mut [u8], at: usize) -> usize
 // The header line, and k lines of five numbers.
 fn headed(numbers: &[u64], k: usize, out: &mut [u8]) -> Answer
     requires { ⌜ k * 5 ≤ length (now numbers) ⌝ }
-    requires { ⌜ k ≤ 1024 ⌝ }
+    requires { ⌜ k ≤ largestCount ⌝ }
     ensures { λ r. ⌜ Printed (header ++ linesOf 5 k (now (numbers .entry))) (now (out .entry)) r (now (out .exit)) ⌝ }
 {
-    let length = 26 + lines_length(numbers, k);
+    let header = b"register,rows,one,two,row\n";
+    let length = header.len() + lines_length(numbers, k);
     if out.len() < length {
         return Answer::refused(Answer::SHORT_LIST, 0);
     }
-    let next = text::put_bytes(b"register,rows,one,two,row\n", out, 0);
+    let next = text::put_bytes(header, out, 0);
     put_lines(numbers, k, out, next);
     Answer::passed(length as u64)
 }
@@ -89,13 +92,13 @@ pub fn report(table: &[u64], out: &mut [u8]) -> Answer
     ensures outcome { λ r. ⌜ (r ≡ reportAnswer (now (table .entry)) (now (out .entry))) × (now (out .exit) ≡ reportAfter (now (table .entry)) (now (out .entry))) ⌝ }
     ensures said { λ _. ⌜ ((register : ℕ) → Meant (now (table .entry)) register) ⌝ }
 {
-    let mut numbers = [0u64; 5120];
+    let mut numbers = [0u64; Row::LARGEST_TABLE];
     let summed = summary::summary(table, &mut numbers);
     if summed.code != 0 {
         return summed;
     }
     let k = summed.rows as usize;
-    let n = k * 5;
+    let n = k * Row::COLUMNS;
     headed(&numbers[..n], k, out)
 }
 
@@ -104,11 +107,11 @@ pub fn road(bytes: &[u8], out: &mut [u8]) -> Answer
     ensures text { λ r. ⌜ Printed (fileText (now (bytes .entry)) reportOf) (now (out .entry)) r (now (out .exit)) ⌝ }
     ensures said { λ _. ⌜ ((register : ℕ) → Meant (tableOf (now (bytes .entry))) register) ⌝ }
 {
-    let mut table = [0u64; 5120];
+    let mut table = [0u64; Row::LARGEST_TABLE];
     let loaded = files::read(bytes, &mut table);
     if loaded.code != 0 {
         return refusal(loaded, out);
     }
-    let n = (loaded.rows as usize) * 5;
+    let n = (loaded.rows as usize) * Row::COLUMNS;
     report(&table[..n], out)
 }

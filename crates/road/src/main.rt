@@ -1,6 +1,6 @@
 // Reads a history file from standard input and prints its report.
 fn main() {
-    let mut input = [0u8; 36900];
+    let mut input = [0u8; files::LONGEST];
     let got = console::take(libc::STDIN_FILENO, &mut input);
     if !got.sound {
         console::complain(b"road: standard input cannot be read\n");

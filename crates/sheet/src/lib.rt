@@ -17,12 +17,6 @@ const PLACES: usize = 1025;
 // A buffer of so many bytes holds every sheet with its check.
 const ROOM: usize = 65536;
 
-// Five numbers for each of 1,024 rows.
-const NUMBERS: usize = 5120;
-
-// The trials that are enough for every register.
-const MOST_TRIALS: u64 = 524800;
-
 // Marks the register by a question: the page holds the question's number and, behind it, the list.
 fn ask(table: &[u64], register: u64, question: u64, allowance: u64, page: &mut [u64]) -> Answer
     requires { ⌜ now page ≡ replicate places 0 ⌝ }
@@ -128,7 +122,7 @@ pub fn checked(table: &[u64], register: u64, k: u64, list: &[u64], out: &mut [u8
     ensures told { λ _. ⌜ Told (now (table .entry)) register k (now (list .entry)) ⌝ }
 {
     let mut whole = [0u8; ROOM];
-    let next = put_sheet(table, register, MOST_TRIALS, &mut whole);
+    let next = put_sheet(table, register, marks::MOST_TRIALS, &mut whole);
     let answer = orders::check(table, register, k, list);
     let length = put_check(answer, &mut whole, next);
     hand_out(&whole[..length], out)
@@ -139,7 +133,7 @@ pub fn bench(bytes: &[u8], register: u64, allowance: u64, out: &mut [u8]) -> Ans
     ensures text { λ r. ⌜ Printed (benchOf (now (bytes .entry)) register allowance) (now (out .entry)) r (now (out .exit)) ⌝ }
     ensures shown { λ _. ⌜ Shown (tableOf (now (bytes .entry))) register allowance ⌝ }
 {
-    let mut table = [0u64; NUMBERS];
+    let mut table = [0u64; Row::LARGEST_TABLE];
     let read = files::read(bytes, &mut table);
     if read.code != Answer::FRESH {
         return report::refusal(read, out);
@@ -154,7 +148,7 @@ pub fn exam(bytes: &[u8], register: u64, k: u64, list: &[u64], out: &mut [u8]) -
     ensures shown { λ _. ⌜ Shown (tableOf (now (bytes .entry))) register mostTrials ⌝ }
     ensures told { λ _. ⌜ Told (tableOf (now (bytes .entry))) register k (now (list .entry)) ⌝ }
 {
-    let mut table = [0u64; NUMBERS];
+    let mut table = [0u64; Row::LARGEST_TABLE];
     let read = files::read(bytes, &mut table);
     if read.code != Answer::FRESH {
         return report::refusal(read, out);

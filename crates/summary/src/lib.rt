@@ -16,6 +16,9 @@ const ZONES: u64 = 1;
 
 const FZF: u64 = 3;
 
+// The numbers of an entry.
+const ENTRY: usize = 5;
+
 // The register of each row, and the rows' numbers, at the front of two slices.
 fn column(table: &[u64], keys: &mut [u64], rows: &mut [u64])
     requires { ⌜ length (now keys) ≡ rowCount (now table) ⌝ }
@@ -89,7 +92,7 @@ fn put_entries(table: &[u64], registers: &[u64], list: &mut [u64])
 {
     let mut i: usize = 0;
     while i < registers.len() {
-        put_entry(table, registers[i], list, i * 5);
+        put_entry(table, registers[i], list, i * ENTRY);
         i += 1;
     }
 }
@@ -110,7 +113,7 @@ pub fn summary(table: &[u64], list: &mut [u64]) -> Answer
     let mut rows = [0u64; Row::LARGEST_COUNT];
     let mut found = [0u64; Row::LARGEST_COUNT];
     let m = registers(table, &mut keys[..n], &mut rows[..n], &mut found[..n]);
-    if list.len() < m * 5 {
+    if list.len() < m * ENTRY {
         return Answer::refused(Answer::SHORT_LIST, 0);
     }
     put_entries(table, &found[..m], list);

@@ -14,18 +14,15 @@ lines-length-requires : tie.Need-lines-length-requires
 lines-length-requires c κs = search needs
 
 add-length : tie.Need-add-length
-add-length c = omega (arith, c .lines-length .ensures, lines-length 5 (c .before .before .before .args .k) (c .before .before .before .args .numbers .now))
+add-length c = omega (arith, c .lines-length .ensures, lines-length 5 (c .before .before .before .before .args .k) (c .before .before .before .before .args .numbers .now))
 
 refused-requires : tie.Need-refused-requires
 refused-requires c κs = search needs
 
 returns : tie.Need-returns
 returns c =
-    let a = c .before .before .before .before .before .args in
+    let a = c .before .before .before .before .before .before .args in
     printed-short (header ++ linesOf 5 (a .k) (a .numbers .now)) _ _ (omega (arith, c .before .before .lines-length .ensures, length-append header (linesOf 5 (a .k) (a .numbers .now)))) _ (c .before .if1 .taken) (c .refused .ensures)
-
-slice-aggregate-put-bytes : tie.Need-slice-aggregate-put-bytes
-slice-aggregate-put-bytes c = search needs
 
 put-bytes-requires : tie.Need-put-bytes-requires
 put-bytes-requires c κs = search needs
@@ -41,7 +38,7 @@ same-length c = search needs
 
 returns-2 : tie.Need-returns-2
 returns-2 c =
-    let a = c .before .before .before .before .before .before .before .before .before .before .before .before .before .before .args in
+    let a = c .before .before .before .before .before .before .before .before .before .before .before .before .before .before .before .args in
     printed (header ++ linesOf 5 (a .k) (a .numbers .now)) _ _ (omega (arith, c .before .before .before .before .before .before .before .before .before .before .before .lines-length .ensures, length-append header (linesOf 5 (a .k) (a .numbers .now)))) _ _ (omega arith) (c .passed .ensures) (parts header (linesOf 5 (a .k) (a .numbers .now)) (a .out .now) _ _ _ (c .before .before .before .before .before .before .before .put-bytes .ensures .0) (c .before .before .before .before .before .before .before .put-bytes .ensures .1) (c .before .before .before .put-lines .ensures .1))
 
 pub headed-spec : {M : Type 1} → statement M
@@ -52,7 +49,6 @@ headed-spec =
     add-length
     refused-requires
     returns
-    slice-aggregate-put-bytes
     put-bytes-requires
     put-lines-requires
     passed-requires
