@@ -1,5 +1,3 @@
--- The laws of texts in a lent buffer.
-pub mod Printing
+-- The loops over the lines of the report, and the report from the summary.
 pub mod Lines
 pub mod Reporting
-pub mod Filing

@@ -21,7 +21,7 @@ use Rattle.summary.specs.Summary.{summaryOf, summaryTests, summaryAnswer, summa
 use Rattle.summary.proofs.Answering.{summary-long}
 use Rattle.summary.proofs.Telling.{tests-coded, summary-passed, summary-written}
 use Rattle.summary.proofs.Ascending.{registers-few}
-use Rattle.report.specs.Texts.{textAnswer, textAfter, Printed}
+use Rattle.printing.specs.Texts.{textAnswer, textAfter, Printed}
 use Rattle.report.specs.Report.{header, reportOf, reportTests, reportAnswer, reportAfter}
 
 -- places for five numbers of each of 1,024 registers
@@ -95,3 +95,12 @@ module _ (t out : List ℕ) where
           let f = le-ltb largestCount (rowCount t) (few zero) in
           let text : header ++ linesOf 5 (a .rows) (take (a .rows * 5) numbers) ≡ reportOf t = rw (rows, ← rows, front-is) refl in
           (p .0 ∙ ap (λ x. textAnswer x out) text ∙ sym (rw (e, f) refl), p .1 ∙ ap (λ x. textAfter x out) text ∙ sym (rw (e, f) refl))
+
+-- a table of whole rows, no more than 1,024, is not refused
+pub report-whole : (t out : List ℕ) → length t % 5 ≡ 0 → rowCount t ≤ largestCount → (r : Answer) (after : List ℕ) →
+    (r ≡ reportAnswer t out) × (after ≡ reportAfter t out) → Printed (reportOf t) out r after
+unfolding reportAnswer reportAfter reportTests firstMet
+report-whole t out w f r after p =
+    let e = eq-eqb (length t % 5) 0 w in
+    let g = le-ltb largestCount (rowCount t) f in
+    (p .0 ∙ rw (e, g) refl, p .1 ∙ rw (e, g) refl)

@@ -1,4 +1,2 @@
--- The texts that the programs print.
-pub mod Texts
+-- The report of a table.
 pub mod Report
-pub mod Files

@@ -11,7 +11,7 @@ use Rattle.history.specs.Answer.{number, fresh, ragged, overfull, Test, test, i
 use Rattle.text.specs.Decimal.{linesOf}
 use Rattle.summary.specs.Registers.{registers}
 use Rattle.summary.specs.Summary.{summaryOf}
-use Rattle.report.specs.Texts.{textAnswer, textAfter}
+use Rattle.printing.specs.Texts.{textAnswer, textAfter}
 
 -- the header line is exactly register,rows,one,two,row (01, "Files, program, C host")
 abbrev pub header : List ℕ

@@ -1,40 +1,18 @@
-// The report of a road: the header line, and a line for each register; or the line of a refused file.
+// The report of a road: the header line, and a line for each register.
 use history::Answer;
 use history::Row;
 ghost use mathlib.Core.Path.{_≡_};
-ghost use mathlib.Core.List.{[], _∷_, _++_};
-ghost use Prim.Native.Nat.{ℕ, _+_, _*_, _≤_, _<_, _^_};
+ghost use mathlib.Core.List.{_++_};
+ghost use Prim.Native.Nat.{ℕ, _+_, _*_, _≤_};
 ghost use lib.ListN.{length};
 ghost use lib.Seq.{sets};
 ghost use Rattle.history.specs.Table.{largestCount};
-ghost use Rattle.text.specs.Decimal.{line, linesOf};
+ghost use Rattle.text.specs.Decimal.{linesOf};
 ghost use Rattle.files.specs.Records.{tableOf};
 ghost use Rattle.summary.specs.Summary.{Meant};
-ghost use Rattle.report.specs.Texts.{Printed, refusedLine};
+ghost use Rattle.printing.specs.Texts.{Printed};
+ghost use Rattle.printing.specs.Files.{fileText};
 ghost use Rattle.report.specs.Report.{header, reportOf, reportAnswer, reportAfter};
-ghost use Rattle.report.specs.Files.{fileText};
-
-// Writes a word and a line of numbers at the front of the buffer: a text of its own.
-fn worded(word: &[u8], numbers: &[u64], out: &mut [u8]) -> Answer
-    requires { ⌜ length (now word) + length (now numbers) < 2 ^ 32 ⌝ }
-    ensures { λ r. ⌜ Printed (now (word .entry) ++ line (now (numbers .entry))) (now (out .entry)) r (now (out .exit)) ⌝ }
-{
-    let length = word.len() + text::line_length(numbers);
-    if out.len() < length {
-        return Answer::refused(Answer::SHORT_LIST, 0);
-    }
-    let next = text::put_bytes(word, out, 0);
-    text::put_line(numbers, out, next);
-    Answer::passed(length as u64)
-}
-
-// The line of a refused file.
-pub fn refusal(answer: Answer, out: &mut [u8]) -> Answer
-    ensures { λ r. ⌜ Printed (refusedLine answer) (now (out .entry)) r (now (out .exit)) ⌝ }
-{
-    let numbers = [answer.code, answer.row];
-    worded(b"refused,", &numbers, out)
-}
 
 // How many bytes k lines of five numbers take.
 fn lines_length(numbers: &[u64], k: usize) -> usize
@@ -45,8 +23,8 @@ fn lines_length(numbers: &[u64], k: usize) -> usize
     let mut total: usize = 0;
     let mut i: usize = 0;
     while i < k {
-        let from = i * 5;
-        let to = from + 5;
+        let from = i * summary::ENTRY;
+        let to = from + summary::ENTRY;
         total += text::line_length(&numbers[from..to]);
         i += 1;
     }
@@ -63,8 +41,8 @@ fn put_lines(numbers: &[u64], k: usize, out: &mut [u8], at: usize) -> usize
     let mut place = at;
     let mut i: usize = 0;
     while i < k {
-        let from = i * 5;
-        let to = from + 5;
+        let from = i * summary::ENTRY;
+        let to = from + summary::ENTRY;
         place = text::put_line(&numbers[from..to], out, place);
         i += 1;
     }
@@ -98,7 +76,7 @@ pub fn report(table: &[u64], out: &mut [u8]) -> Answer
         return summed;
     }
     let k = summed.rows as usize;
-    let n = k * Row::COLUMNS;
+    let n = k * summary::ENTRY;
     headed(&numbers[..n], k, out)
 }
 
@@ -110,7 +88,7 @@ pub fn road(bytes: &[u8], out: &mut [u8]) -> Answer
     let mut table = [0u64; Row::LARGEST_TABLE];
     let loaded = files::read(bytes, &mut table);
     if loaded.code != 0 {
-        return refusal(loaded, out);
+        return printing::refusal(loaded, out);
     }
     let n = (loaded.rows as usize) * Row::COLUMNS;
     report(&table[..n], out)

@@ -23,7 +23,7 @@ use Rattle.meaning.proofs.Outcomes.{marked?}
 use Rattle.preparation.proofs.Rows.{history-rows}
 use Rattle.text.specs.Decimal.{line}
 use Rattle.text.proofs.Joins.{line-length}
-use Rattle.report.proofs.Filing.{text-bound}
+use Rattle.printing.proofs.Filing.{text-bound}
 use Rattle.sheet.specs.Sheet.{heading, outcomeTo, answerLine, orderWord, orderLine, answersOf, ordersOf, pageOf, sheetOf, checkWord, checkLine, examOf}
 use Rattle.sheet.specs.Pages.{places, room, orderOf}
 use Rattle.sheet.specs.Files.{benchOf, examFile}

@@ -10,7 +10,7 @@ use lib.Seq.{sets, take-at}
 use Rattle.lists.proofs.Stores.{sets-behind, sets-front}
 use Rattle.history.specs.declared.Answer.{Answer}
 use Rattle.methods.specs.Mark.{Outcome}
-use Rattle.report.specs.Texts.{Printed}
+use Rattle.printing.specs.Texts.{Printed}
 use Rattle.sheet.specs.Sheet.{heading, orderLine, answersOf, ordersOf, pageOf}
 use Rattle.sheet.specs.Pages.{Put, Page, orderOf}
 

@@ -2,7 +2,7 @@
 -- Assumes nothing.
 use Prim.Native.Nat.{ℕ}
 use mathlib.Core.List.{List}
-use Rattle.report.specs.Files.{fileText}
+use Rattle.printing.specs.Files.{fileText}
 use Rattle.sheet.specs.Sheet.{sheetOf, examOf}
 
 -- the sheet of a register of the file

@@ -6,7 +6,7 @@ ghost use Prim.Native.Nat.{_+_, _≤_, _<_};
 ghost use lib.ListN.{length, replicate};
 ghost use Rattle.files.specs.Records.{tableOf};
 ghost use Rattle.marks.specs.Marks.{mostTrials};
-ghost use Rattle.report.specs.Texts.{Printed};
+ghost use Rattle.printing.specs.Texts.{Printed};
 ghost use Rattle.sheet.specs.Sheet.{outcomeTo, answerLine, answersOf, sheetOf, Shown, checkLine, examOf, Told};
 ghost use Rattle.sheet.specs.Files.{benchOf, examFile};
 ghost use Rattle.sheet.specs.Pages.{Put, places, room, Page, orderOf};
@@ -136,7 +136,7 @@ pub fn bench(bytes: &[u8], register: u64, allowance: u64, out: &mut [u8]) -> Ans
     let mut table = [0u64; Row::LARGEST_TABLE];
     let read = files::read(bytes, &mut table);
     if read.code != Answer::FRESH {
-        return report::refusal(read, out);
+        return printing::refusal(read, out);
     }
     let end = read.rows as usize * Row::COLUMNS;
     sheet(&table[..end], register, allowance, out)
@@ -151,7 +151,7 @@ pub fn exam(bytes: &[u8], register: u64, k: u64, list: &[u64], out: &mut [u8]) -
     let mut table = [0u64; Row::LARGEST_TABLE];
     let read = files::read(bytes, &mut table);
     if read.code != Answer::FRESH {
-        return report::refusal(read, out);
+        return printing::refusal(read, out);
     }
     let end = read.rows as usize * Row::COLUMNS;
     checked(&table[..end], register, k, list, out)

@@ -17,7 +17,7 @@ const ZONES: u64 = 1;
 const FZF: u64 = 3;
 
 // The numbers of an entry.
-const ENTRY: usize = 5;
+pub const ENTRY: usize = 5;
 
 // The register of each row, and the rows' numbers, at the front of two slices.
 fn column(table: &[u64], keys: &mut [u64], rows: &mut [u64])

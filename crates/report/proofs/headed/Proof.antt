@@ -5,8 +5,8 @@ use lib.ListN.{length-append}
 use borrow.Author.Needs.{needs}
 use Rattle.text.specs.Decimal.{linesOf}
 use Rattle.text.proofs.Joins.{lines-length}
+use Rattle.printing.proofs.Writing.{printed-short, printed, parts}
 use Rattle.report.specs.Report.{header}
-use Rattle.report.proofs.Printing.{printed-short, printed, parts}
 use Rattle.report.proofs.headed.Statement.{statement}
 use Rattle.report.proofs.headed.Tie as tie
 

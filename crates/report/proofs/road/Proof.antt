@@ -4,7 +4,8 @@ use native.Mathlib.Omega.{arith}
 use borrow.Author.Needs.{needs}
 use Rattle.files.proofs.Loading.{table-whole, loaded-as, loaded-small, loaded-few, loaded-front, loaded-long, loaded-in}
 use Rattle.report.specs.Report.{reportOf}
-use Rattle.report.proofs.Filing.{file-refused, file-printed, report-whole}
+use Rattle.printing.proofs.Filing.{file-refused, file-printed}
+use Rattle.report.proofs.Reporting.{report-whole}
 use Rattle.report.proofs.road.Statement.{statement}
 use Rattle.report.proofs.road.Tie as tie
 

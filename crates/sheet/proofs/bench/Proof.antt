@@ -3,7 +3,7 @@ use Rattle.sheet.proofs.Showing.{shown}
 use native.Mathlib.Omega.{arith}
 use borrow.Author.Needs.{needs}
 use Rattle.files.proofs.Loading.{loaded-as, loaded-small, loaded-front, loaded-in, loaded-long}
-use Rattle.report.proofs.Filing.{file-refused, file-printed}
+use Rattle.printing.proofs.Filing.{file-refused, file-printed}
 use Rattle.sheet.specs.Sheet.{sheetOf}
 use Rattle.sheet.specs.Files.{benchOf}
 use Rattle.sheet.proofs.bench.Statement.{statement}

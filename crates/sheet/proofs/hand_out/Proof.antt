@@ -1,7 +1,7 @@
 -- A whole text is copied, or nothing is.
 use mathlib.Core.Path.{refl}
 use borrow.Author.Needs.{needs}
-use Rattle.report.proofs.Printing.{printed-short, printed}
+use Rattle.printing.proofs.Writing.{printed-short, printed}
 use Rattle.sheet.proofs.hand_out.Statement.{statement}
 use Rattle.sheet.proofs.hand_out.Tie as tie
 

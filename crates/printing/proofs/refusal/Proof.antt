@@ -1,8 +1,8 @@
 -- A word and two numbers.
 use borrow.Author.Needs.{needs}
-use Rattle.report.specs.Texts.{refusedLine}
-use Rattle.report.proofs.refusal.Statement.{statement}
-use Rattle.report.proofs.refusal.Tie as tie
+use Rattle.printing.specs.Texts.{refusedLine}
+use Rattle.printing.proofs.refusal.Statement.{statement}
+use Rattle.printing.proofs.refusal.Tie as tie
 
 slice-aggregate-worded : tie.Need-slice-aggregate-worded
 slice-aggregate-worded c = search needs

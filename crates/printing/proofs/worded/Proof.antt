@@ -4,9 +4,9 @@ use lib.ListN.{length-append}
 use borrow.Author.Needs.{needs}
 use Rattle.text.specs.Decimal.{line}
 use Rattle.text.proofs.Joins.{line-length}
-use Rattle.report.proofs.Printing.{printed-short, printed, parts}
-use Rattle.report.proofs.worded.Statement.{statement}
-use Rattle.report.proofs.worded.Tie as tie
+use Rattle.printing.proofs.Writing.{printed-short, printed, parts}
+use Rattle.printing.proofs.worded.Statement.{statement}
+use Rattle.printing.proofs.worded.Tie as tie
 
 line-length-requires : tie.Need-line-length-requires
 line-length-requires c κs = search needs

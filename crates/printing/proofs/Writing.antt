@@ -10,7 +10,7 @@ use borrow.Author.Tests.{lt-ltb, le-ltb}
 use Rattle.lists.proofs.Stores.{sets-behind, sets-front}
 use Rattle.history.specs.declared.Answer.{Answer}
 use Rattle.history.specs.Answer.{short-list, refused, passed}
-use Rattle.report.specs.Texts.{textAnswer, textAfter, Printed}
+use Rattle.printing.specs.Texts.{textAnswer, textAfter, Printed}
 
 module _ (text out : List ℕ) (length₀ : ℕ) (long : length₀ ≡ length text) (a : Answer) where
   -- the buffer has no room

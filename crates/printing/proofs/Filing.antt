@@ -1,6 +1,6 @@
 -- What is printed of a file, from its reading.
 -- Assumes nothing.
-use Prim.Native.Nat.{ℕ, _%_, _≤_}
+use Prim.Native.Nat.{ℕ, _≤_}
 use mathlib.Core.Path.{_≡_, refl, sym, ap, _∙_}
 use mathlib.Core.Logic.{_≢_}
 use mathlib.Core.Bool.{Bool, true, false, cond}
@@ -8,17 +8,14 @@ use mathlib.Core.List.{List, [], _∷_}
 use native.Mathlib.Omega.{arith}
 use lib.Dec.{eqb}
 use lib.ListN.{length, length-append}
-use borrow.Author.Tests.{eq-eqb, ne-eqb, le-ltb}
+use borrow.Author.Tests.{eq-eqb, ne-eqb}
 use Rattle.history.specs.declared.Answer.{Answer}
-use Rattle.history.specs.Table.{largestCount, rowCount}
-use Rattle.history.specs.Answer.{firstMet}
 use Rattle.text.specs.Decimal.{line}
 use Rattle.text.proofs.Joins.{line-length}
 use Rattle.files.specs.Records.{tableOf}
 use Rattle.files.specs.Files.{fileAnswer}
-use Rattle.report.specs.Texts.{refusedWord, refusedLine, textAnswer, textAfter, Printed}
-use Rattle.report.specs.Report.{reportOf, reportTests, reportAnswer, reportAfter}
-use Rattle.report.specs.Files.{fileText}
+use Rattle.printing.specs.Texts.{refusedWord, refusedLine, textAnswer, textAfter, Printed}
+use Rattle.printing.specs.Files.{fileText}
 
 -- a reading's answer, and a text that was printed
 module _ (bytes : List ℕ) (text : List ℕ → List ℕ) (out : List ℕ) (a : Answer) (e : a ≡ fileAnswer bytes) (r : Answer) (after : List ℕ) where
@@ -35,15 +32,6 @@ module _ (bytes : List ℕ) (text : List ℕ → List ℕ) (out : List ℕ) (a :
   file-printed z p =
       let w = eq-eqb (fileAnswer bytes .code) 0 (sym (ap (λ x. x .code) e) ∙ z) in
       (p .0 ∙ sym (rw w refl), p .1 ∙ sym (rw w refl))
-
--- a table of whole rows, no more than 1,024, is not refused
-pub report-whole : (t out : List ℕ) → length t % 5 ≡ 0 → rowCount t ≤ largestCount → (r : Answer) (after : List ℕ) →
-    (r ≡ reportAnswer t out) × (after ≡ reportAfter t out) → Printed (reportOf t) out r after
-unfolding reportAnswer reportAfter reportTests firstMet
-report-whole t out w f r after p =
-    let e = eq-eqb (length t % 5) 0 w in
-    let g = le-ltb largestCount (rowCount t) f in
-    (p .0 ∙ rw (e, g) refl, p .1 ∙ rw (e, g) refl)
 
 -- a line of a refusal: a word and two numbers
 refused-bound : (a : Answer) → length (refusedLine a) ≤ 51

@@ -7,7 +7,7 @@ use lib.Dec.{eqb}
 use Rattle.history.specs.Answer.{number, fresh}
 use Rattle.files.specs.Records.{tableOf}
 use Rattle.files.specs.Files.{fileAnswer}
-use Rattle.report.specs.Texts.{refusedLine}
+use Rattle.printing.specs.Texts.{refusedLine}
 
 unfoldable pub fileText : List ℕ → (List ℕ → List ℕ) → List ℕ
 fileText bytes text = cond (eqb (fileAnswer bytes .code) (number fresh)) (text (tableOf bytes)) (refusedLine (fileAnswer bytes))

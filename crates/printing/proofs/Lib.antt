@@ -1,0 +1,3 @@
+-- The laws of texts in a lent buffer.
+pub mod Writing
+pub mod Filing
