@@ -107,7 +107,9 @@ pub fn number(place: usize) -> Number {
 pub fn print(text: &[u8], length: u64) {
     if length <= text.len() as u64 {
         let n = length as usize;
-        io::write_all(STDOUT_FILENO, &text[..n]);
+        if !io::write_all(STDOUT_FILENO, &text[..n]) {
+            complain(b"standard output cannot be written\n");
+        }
     }
 }
 

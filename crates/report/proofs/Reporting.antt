@@ -16,6 +16,7 @@ use Rattle.history.specs.Answer.{ragged, overfull, firstMet, passed}
 use Rattle.history.proofs.Refusals.{NoFault, code-no-fault, if-so}
 use Rattle.methods.specs.Mark.{written}
 use Rattle.text.specs.Decimal.{linesOf}
+use Rattle.text.proofs.Joins.{lines-length}
 use Rattle.summary.specs.Registers.{registers}
 use Rattle.summary.specs.Summary.{summaryOf, summaryTests, summaryAnswer, summaryList}
 use Rattle.summary.proofs.Answering.{summary-long}
@@ -104,3 +105,10 @@ report-whole t out w f r after p =
     let e = eq-eqb (length t % 5) 0 w in
     let g = le-ltb largestCount (rowCount t) f in
     (p .0 ∙ rw (e, g) refl, p .1 ∙ rw (e, g) refl)
+
+-- a report has at most 106 bytes for each of 1,024 registers, behind its header
+pub report-bound : (t : List ℕ) → rowCount t ≤ largestCount → length (reportOf t) ≤ 108570
+unfolding reportOf
+report-bound t f =
+    let lines = linesOf 5 (length (registers t)) (summaryOf t) in
+    omega (arith, f, length-append header lines, lines-length 5 (length (registers t)) (summaryOf t), registers-few t)

@@ -7,7 +7,7 @@ fn main() {
         return;
     }
     let n = got.count;
-    let mut out = [0u8; 65536];
+    let mut out = [0u8; 131072];
     let printed = report::road(&input[..n], &mut out);
     console::print(&out, printed.rows);
 }
