@@ -3,3 +3,4 @@ pub mod Following
 pub mod Sequence
 pub mod Turning
 pub mod Offers
+pub mod Trying

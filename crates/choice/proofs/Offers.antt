@@ -4,7 +4,7 @@ use Prim.Native.Nat.{ℕ, zero, suc, _+_, _-_, _≤_, _<_}
 use mathlib.Core.Path.{_≡_, refl, ap, sym, _∙_}
 use mathlib.Core.Bool.{Bool, true, false, not, cond}
 use mathlib.Core.Logic.{_⊎_, inl, inr, _≢_}
-use mathlib.Core.List.{List, [], _∷_, _++_, map, append-nil, append-assoc, List·Memᴰ as In, List·Memᴰ·head as here, List·Memᴰ·tail as there, List·Memᴰ·append-cases}
+use mathlib.Core.List.{List, [], _∷_, _++_, map, append-nil, append-assoc, List·Memᴰ as In, List·Memᴰ·head as here, List·Memᴰ·tail as there, List·Memᴰ·append-cases, Memᴰ·append-left, Memᴰ·append-right}
 use native.Mathlib.Omega.{arith}
 use native.Mathlib.Numerals.{add-one}
 use lib.ListN.{length, getD, take, set, length-append}
@@ -22,11 +22,11 @@ use Rattle.positions.specs.Places.{Unlike}
 use Rattle.positions.specs.Columns.{Cols, op, ops}
 use Rattle.positions.proofs.Once.{pairs-once}
 use Rattle.placing.specs.declared.State.{State}
-use Rattle.placing.specs.declared.Tried.{Tried}
-use Rattle.placing.specs.States.{left, laid, Whose}
+use Rattle.placing.specs.declared.Front.{Front}
+use Rattle.placing.specs.States.{Whose}
 use Rattle.choice.specs.Gives.{Gives, no-order, an-order}
 use Rattle.choice.specs.Viable.{Turns, viableBy}
-use Rattle.choice.specs.Offered.{backward, swapIf, endAt, oneAt, offer, offers, Offered, triedBy, chosenBy}
+use Rattle.choice.specs.Offered.{backward, swapIf, endAt, oneAt, offer, offers, triedBy, chosenBy}
 use Rattle.choice.proofs.Turning.{ops-back, ops-swap}
 
 -- Lists turned round and swapped.
@@ -170,7 +170,7 @@ laid-out t b flip swap =
     ∙ ap (λ (l : List ℕ). (l ++ backward (swapIf swap t)) ++ backward F) (one-back b (endAt (length b) flip))
     ∙ ap (λ (l : List ℕ). (B ++ backward (swapIf swap t)) ++ l) (one-back b (endAt (length b) (not flip))))
 
-module _ {writer t b : List ℕ} {s : State} (g : Offered writer t b s) (flip swap : Bool) where
+module _ (writer t b : List ℕ) (s : State) (k : (x : ℕ) → In x (t ++ b) → Whose writer s x) (a : Pairs Unlike (t ++ b)) (flip swap : Bool) where
   abbrev F : List ℕ
   F = oneAt b (endAt (length b) (not flip))
 
@@ -188,12 +188,12 @@ module _ {writer t b : List ℕ} {s : State} (g : Offered writer t b s) (flip sw
   offer-whose x m = go (List·Memᴰ·append-cases F m)
     where
       inside : In x (swapIf swap t) ⊎ In x B → Whose writer s x
-      inside (inl k) = g .forth x (in-swap swap t k)
-      inside (inr k) = g .inner x (B-in k)
+      inside (inl i) = k x (Memᴰ·append-left b (in-swap swap t i))
+      inside (inr i) = k x (Memᴰ·append-right t (B-in i))
 
       go : In x F ⊎ In x (swapIf swap t ++ B) → Whose writer s x
-      go (inl k) = g .inner x (F-in k)
-      go (inr k) = inside (List·Memᴰ·append-cases (swapIf swap t) k)
+      go (inl i) = k x (Memᴰ·append-right t (F-in i))
+      go (inr i) = inside (List·Memᴰ·append-cases (swapIf swap t) i)
 
   one-apart : (k : ℕ) → Pairs Unlike (oneAt b k)
   unfolding oneAt
@@ -204,15 +204,15 @@ module _ {writer t b : List ℕ} {s : State} (g : Offered writer t b s) (flip sw
   unfolding offer
   offer-apart =
       pairs-append (one-apart (endAt (length b) (not flip)))
-      (pairs-append (swap-apart swap (pairs-front t b (g .apart))) (one-apart (endAt (length b) flip)) (λ x y m n. across x y (in-swap swap t m) (B-in n)))
+      (pairs-append (swap-apart swap (pairs-front t b a)) (one-apart (endAt (length b) flip)) (λ x y m n. across x y (in-swap swap t m) (B-in n)))
       (λ x y m n. rest x y m (List·Memᴰ·append-cases (swapIf swap t) n))
     where
       across : (x y : ℕ) → In x t → In y b → x ≢ y
-      across x y m n = pairs-across t (g .apart) x y m n
+      across x y m n = pairs-across t a x y m n
 
       rest : (x y : ℕ) → In x F → In y (swapIf swap t) ⊎ In y B → x ≢ y
       rest x y m (inl n) q = across y x (in-swap swap t n) (F-in m) (sym q)
-      rest x y m (inr n) q = sides-apart (pairs-behind t (g .apart)) flip m n q
+      rest x y m (inr n) q = sides-apart (pairs-behind t a) flip m n q
 
   -- what the test requires of the sequence
   pub offer-turns : Turns writer (backward (offer t b flip swap)) s
@@ -267,57 +267,60 @@ first-then xs ys H K d e =
     ∙ first-append (map (ops H) xs) (map (ops H) ys) K
     ∙ ap (λ (x : Decision). orElse x (firstViable (map (ops H) ys) K)) e
 
-module _ (C : Cols) (s : State) where
+module _ (C : Cols) (K L cells : List ℕ) where
   -- one order
-  pub try-one : (T : List ℕ) (r : Tried) → Gives C (viableBy (backward T) s) s r → Gives C (triedBy (T ∷ []) s) s r
+  pub try-one : (T : List ℕ) (r : Front) → Gives C (viableBy (backward T) K) L cells r → Gives C (triedBy (T ∷ []) K) L cells r
   unfolding firstViable
   try-one T r (no-order e n) =
-      no-order e (λ H f. let q : viable (back (ops H T)) (ops H (left s)) ≡ none = ap (λ (l : List Op). viable l (ops H (left s))) (sym (ops-back H T)) ∙ n H f in rw (q, firstViable))
+      no-order e (λ H f. let q : viable (back (ops H T)) (ops H K) ≡ none = ap (λ (l : List Op). viable l (ops H K)) (sym (ops-back H T)) ∙ n H f in rw (q, firstViable))
   try-one T r (an-order e g) =
       an-order e
       (record {
-        holds = g .holds;
+        sized = g .sized;
+        high = g .high;
         placed = g .placed;
         lays = g .lays;
         whole = λ H f.
-            let q : viable (back (ops H T)) (ops H (left s)) ≡ order (ops H (g .placed)) = ap (λ (l : List Op). viable l (ops H (left s))) (sym (ops-back H T)) ∙ g .whole H f in
+            let q : viable (back (ops H T)) (ops H K) ≡ order (ops H (g .placed)) = ap (λ (l : List Op). viable l (ops H K)) (sym (ops-back H T)) ∙ g .whole H f in
             rw (q, firstViable);
       })
 
   module _ (xs ys : List (List ℕ)) where
-    try-hit : (r : Tried) → Gives C (triedBy xs s) s r → r .failed ≡ false → Gives C (triedBy (xs ++ ys) s) s r
+    try-hit : (r : Front) → Gives C (triedBy xs K) L cells r → r .failed ≡ false → Gives C (triedBy (xs ++ ys) K) L cells r
     unfolding orElse
     try-hit r (no-order e n) q = absurd (both e q)
     try-hit r (an-order e g) q =
         an-order e
         (record {
-          holds = g .holds;
+          sized = g .sized;
+          high = g .high;
           placed = g .placed;
           lays = g .lays;
-          whole = λ H f. first-then xs ys H (ops H (left s)) _ (g .whole H f);
+          whole = λ H f. first-then xs ys H (ops H K) _ (g .whole H f);
         })
 
-    try-miss : (a r : Tried) → Gives C (triedBy xs s) s a → a .failed ≡ true → Gives C (triedBy ys s) s r → Gives C (triedBy (xs ++ ys) s) s r
+    try-miss : (old : List ℕ) (a r : Front) → Gives C (triedBy xs K) L old a → a .failed ≡ true → Gives C (triedBy ys K) L cells r → Gives C (triedBy (xs ++ ys) K) L cells r
     unfolding orElse
-    try-miss a r (an-order e g) q t = absurd (both q e)
-    try-miss a r (no-order e n) q (no-order d m) =
-        no-order d (λ H f. first-then xs ys H (ops H (left s)) none (n H f) ∙ m H f)
-    try-miss a r (no-order e n) q (an-order d g) =
+    try-miss old a r (an-order e g) q t = absurd (both q e)
+    try-miss old a r (no-order e n) q (no-order d m) =
+        no-order d (λ H f. first-then xs ys H (ops H K) none (n H f) ∙ m H f)
+    try-miss old a r (no-order e n) q (an-order d g) =
         an-order d
         (record {
-          holds = g .holds;
+          sized = g .sized;
+          high = g .high;
           placed = g .placed;
           lays = g .lays;
-          whole = λ H f. first-then xs ys H (ops H (left s)) none (n H f) ∙ g .whole H f;
+          whole = λ H f. first-then xs ys H (ops H K) none (n H f) ∙ g .whole H f;
         })
 
   -- unflipped, and flipped where there is something to flip
   module _ (t b : List ℕ) (swap : Bool) where
-    pub try-none : length b ≡ 0 → (r : Tried) → Gives C (triedBy (offer t b false swap ∷ []) s) s r → Gives C (triedBy (offers t b swap) s) s r
+    pub try-none : length b ≡ 0 → (r : Front) → Gives C (triedBy (offer t b false swap ∷ []) K) L cells r → Gives C (triedBy (offers t b swap) K) L cells r
     unfolding offers
     try-none e r k = go b e k
       where
-        go : (b : List ℕ) → length b ≡ 0 → Gives C (triedBy (offer t b false swap ∷ []) s) s r → Gives C (triedBy (offers t b swap) s) s r
+        go : (b : List ℕ) → length b ≡ 0 → Gives C (triedBy (offer t b false swap ∷ []) K) L cells r → Gives C (triedBy (offers t b swap) K) L cells r
         go [] e k = k
         go (w ∷ l) e k = absurd (omega arith)
 
@@ -329,37 +332,38 @@ module _ (C : Cols) (s : State) where
         go [] h = absurd (omega arith)
         go (w ∷ l) h = refl
 
-    pub try-first : 0 < length b → (r : Tried) → Gives C (triedBy (offer t b false swap ∷ []) s) s r → r .failed ≡ false → Gives C (triedBy (offers t b swap) s) s r
+    pub try-first : 0 < length b → (r : Front) → Gives C (triedBy (offer t b false swap ∷ []) K) L cells r → r .failed ≡ false → Gives C (triedBy (offers t b swap) K) L cells r
     try-first h r k e = rw (← two-offers h) (try-hit (offer t b false swap ∷ []) (offer t b true swap ∷ []) r k e)
 
-    pub try-second : 0 < length b → (a r : Tried) → Gives C (triedBy (offer t b false swap ∷ []) s) s a → a .failed ≡ true → Gives C (triedBy (offer t b true swap ∷ []) s) s r →
-        Gives C (triedBy (offers t b swap) s) s r
-    try-second h a r k e m = rw (← two-offers h) (try-miss (offer t b false swap ∷ []) (offer t b true swap ∷ []) a r k e m)
+    pub try-second : 0 < length b → (old : List ℕ) (a r : Front) → Gives C (triedBy (offer t b false swap ∷ []) K) L old a → a .failed ≡ true → Gives C (triedBy (offer t b true swap ∷ []) K) L cells r →
+        Gives C (triedBy (offers t b swap) K) L cells r
+    try-second h old a r k e m = rw (← two-offers h) (try-miss (offer t b false swap ∷ []) (offer t b true swap ∷ []) old a r k e m)
 
   -- all of figure 4's
-  chosen-all : (t b : List ℕ) → length b ≤ 2 → (r : Tried) → Gives C (triedBy (offers t b false ++ offers t b true) s) s r → Gives C (chosenBy t b s) s r
+  chosen-all : (t b : List ℕ) → length b ≤ 2 → (r : Front) → Gives C (triedBy (offers t b false ++ offers t b true) K) L cells r → Gives C (chosenBy t b K) L cells r
   chosen-all t b h r (no-order e n) =
-      no-order e (λ H f. ap (λ (l : List (List Op)). firstViable l (ops H (left s))) (sym (listed-is H t b h)) ∙ n H f)
+      no-order e (λ H f. ap (λ (l : List (List Op)). firstViable l (ops H K)) (sym (listed-is H t b h)) ∙ n H f)
   chosen-all t b h r (an-order e g) =
       an-order e
       (record {
-        holds = g .holds;
+        sized = g .sized;
+        high = g .high;
         placed = g .placed;
         lays = g .lays;
-        whole = λ H f. ap (λ (l : List (List Op)). firstViable l (ops H (left s))) (sym (listed-is H t b h)) ∙ g .whole H f;
+        whole = λ H f. ap (λ (l : List (List Op)). firstViable l (ops H K)) (sym (listed-is H t b h)) ∙ g .whole H f;
       })
 
-  pub chosen-first : (t b : List ℕ) → length b ≤ 2 → (r : Tried) → Gives C (triedBy (offers t b false) s) s r → r .failed ≡ false → Gives C (chosenBy t b s) s r
+  pub chosen-first : (t b : List ℕ) → length b ≤ 2 → (r : Front) → Gives C (triedBy (offers t b false) K) L cells r → r .failed ≡ false → Gives C (chosenBy t b K) L cells r
   chosen-first t b h r k e = chosen-all t b h r (try-hit (offers t b false) (offers t b true) r k e)
 
-  pub chosen-second : (t b : List ℕ) → length b ≤ 2 → (a r : Tried) → Gives C (triedBy (offers t b false) s) s a → a .failed ≡ true →
-      Gives C (triedBy (offers t b true) s) s r → Gives C (chosenBy t b s) s r
-  chosen-second t b h a r k e m = chosen-all t b h r (try-miss (offers t b false) (offers t b true) a r k e m)
+  pub chosen-second : (t b : List ℕ) → length b ≤ 2 → (old : List ℕ) (a r : Front) → Gives C (triedBy (offers t b false) K) L old a → a .failed ≡ true →
+      Gives C (triedBy (offers t b true) K) L cells r → Gives C (chosenBy t b K) L cells r
+  chosen-second t b h old a r k e m = chosen-all t b h r (try-miss (offers t b false) (offers t b true) old a r k e m)
 
   -- three backward clusters or more: none is listed
-  pub chosen-none : (t b : List ℕ) → 2 < length b → (r : Tried) → r .failed ≡ true → Gives C (chosenBy t b s) s r
+  pub chosen-none : (t b : List ℕ) → 2 < length b → (r : Front) → r .failed ≡ true → Gives C (chosenBy t b K) L cells r
   unfolding listed firstViable
-  chosen-none t b h r e = no-order e (λ H f. ap (λ (l : List (List Op)). firstViable l (ops H (left s))) (none-listed H b h))
+  chosen-none t b h r e = no-order e (λ H f. ap (λ (l : List (List Op)). firstViable l (ops H K)) (none-listed H b h))
     where
       none-listed : (H : List Op) (b : List ℕ) → 2 < length b → listed (ops H t) (ops H b) ≡ []
       none-listed H [] k = absurd (omega arith)

@@ -22,7 +22,8 @@ use Rattle.positions.specs.Columns.{Cols, size, wr, Sound, op, ops, Says}
 use Rattle.positions.proofs.Places.{below}
 use Rattle.placing.specs.declared.State.{State}
 use Rattle.placing.specs.declared.Tried.{Tried}
-use Rattle.placing.specs.States.{left, laid, Holds, Whose}
+use Rattle.placing.specs.declared.Front.{Front}
+use Rattle.placing.specs.States.{left, laid, Holds, Whose, Shrinks}
 use Rattle.placing.specs.Stepped.{Stepped, fails, goes}
 use Rattle.choice.specs.Gives.{Gives, no-order, an-order}
 use Rattle.choice.specs.Viable.{follows, Turns, viableBy}
@@ -70,20 +71,22 @@ pub record Placing (C : Cols) (T : List ℕ) (s : State) (i : ℕ) (t : State) :
   pub placed : List ℕ
   pub lays : placed ++ laid s ≡ laid t
   pub whole : Says C (λ H. viable (ops H T) (ops H (left s)) ≡ putBehind (viable (ops H (drop i T)) (ops H (left t))) (ops H placed))
+  pub shrinks : Shrinks (size C) (s .placed) (t .placed)
 
 module _ (C : Cols) (p : Sound C) (T : List ℕ) (s : State) where
   pub place-none : Holds C s → Turns (C .writer) T s → Placing C T s 0 s
   place-none h k =
-      record { within = omega arith; holds = h; whose = λ j a b. k .whose j b; placed = []; lays = refl; whole = λ H f. sym (behind-nil _) }
+      record { within = omega arith; holds = h; whose = λ j a b. k .whose j b; placed = []; lays = refl; whole = λ H f. sym (behind-nil _); shrinks = λ j l e. e }
 
-  pub place-end : (i : ℕ) (t : State) → Placing C T s i t → length T ≤ i → Gives C (viableBy T s) s (record { state = t; asked = 0; failed = false })
+  pub place-end : (i : ℕ) (t : State) → Placing C T s i t → length T ≤ i → (r : Front) → r .failed ≡ false → r .at ≡ t .at → Gives C (viableBy T (left s)) (laid s) (t .order) r
   unfolding viable putBehind
-  place-end i t g l =
-      an-order refl
+  place-end i t g l r e q =
+      an-order e
       (record {
-        holds = g .holds;
+        sized = g .holds .ready .cells;
+        high = omega (arith, g .holds .ready .high);
         placed = g .placed;
-        lays = g .lays;
+        lays = rw q (g .lays);
         whole = λ H f. g .whole H f ∙ ap (λ (k : List ℕ). putBehind (viable (ops H k) (ops H (left t))) (ops H (g .placed))) (drop-of-length-le T l);
       })
 
@@ -116,22 +119,22 @@ module _ (C : Cols) (p : Sound C) (T : List ℕ) (s : State) where
         ∙ ap (λ (k : List ℕ). putBehind (viable (ops H k) (ops H (left t))) (ops H (g .placed))) d
         ∙ ap (λ (x : Decision). putBehind x (ops H (g .placed))) (viable-one (op H w) (ops H L) (ops H (left t)) b e)
 
-    pub place-fails : (r : Tried) → Stepped C w t r → r .failed ≡ true → Gives C (viableBy T s) s r
+    pub place-fails : (r : Tried) → Stepped C w t r → r .failed ≡ true → (cells : List ℕ) (x : Front) → x .failed ≡ true → Gives C (viableBy T (left s)) (laid s) cells x
     unfolding putBehind
-    place-fails r (fails e b) q = no-order q (λ H f. one false H f (broken-not C p t (g .holds) w place-whose L head H f b))
-    place-fails r (goes e x) q = absurd (both q e)
+    place-fails r (fails e b) q cells x z = no-order z (λ H f. one false H f (broken-not C p t (g .holds) w place-whose L head H f b))
+    place-fails r (goes e y) q cells x z = absurd (both q e)
 
-    pub place-clash : (r : Tried) → Stepped C w t r → r .failed ≡ false → follows T (i + 1) (r .asked) ≡ false →
-        Gives C (viableBy T s) s (record { state = t; asked = r .asked; failed = true })
+    pub place-clash : (r : Tried) → Stepped C w t r → r .failed ≡ false → follows T (i + 1) (r .asked) ≡ false → (cells : List ℕ) (y : Front) → y .failed ≡ true → Gives C (viableBy T (left s)) (laid s) cells y
     unfolding putBehind
-    place-clash r (fails e b) q z = absurd (both e q)
-    place-clash r (goes e x) q z =
-        no-order refl (λ H f. one false H f (one-not C p t (g .holds) w place-whose L head H f (r .asked) (x .told) (sym (follows-is T (i + 1) (r .asked)) ∙ z)))
+    place-clash r (fails e b) q z cells y d = absurd (both e q)
+    place-clash r (goes e x) q z cells y d =
+        no-order d (λ H f. one false H f (one-not C p t (g .holds) w place-whose L head H f (r .asked) (x .told) (sym (follows-is T (i + 1) (r .asked)) ∙ z)))
 
     pub place-on : Turns (C .writer) T s → (r : Tried) → Stepped C w t r → r .failed ≡ false → follows T (i + 1) (r .asked) ≡ true → Placing C T s (i + 1) (r .state)
     place-on k r (fails e b) q z = absurd (both e q)
     place-on k r (goes e x) q z =
         record {
+          shrinks = λ j l y. g .shrinks j l (x .shrinks j l y);
           within = omega arith;
           holds = x .holds;
           whose = λ j a b. x .keeps (getD T j 0) (k .once i j (omega arith) b) (g .whose j (omega arith) b);

@@ -3,22 +3,23 @@
 use mathlib.Core.Path.{_≡_}
 use mathlib.Core.Bool.{true, false}
 use mathlib.Core.List.{List, _++_}
-use Prim.Native.Nat.{ℕ}
+use Prim.Native.Nat.{ℕ, _≤_}
+use lib.ListN.{length, drop}
+use Rattle.history.specs.Table.{largestCount}
 use Rattle.history.specs.declared.Op.{Op}
 use Rattle.methods.specs.Zones.{Decision, none, order}
 use Rattle.positions.specs.Columns.{Cols, ops, Says}
-use Rattle.placing.specs.declared.State.{State}
-use Rattle.placing.specs.declared.Tried.{Tried}
-use Rattle.placing.specs.States.{laid, Holds}
+use Rattle.placing.specs.declared.Front.{Front}
 
--- d takes the order that is placed
-pub record Laid (C : Cols) (d : List Op → Decision) (s r : State) : Type 0 where
-  pub holds : Holds C r
+-- d takes the order that stands from `at` on, in front of what was laid
+pub record Laid (C : Cols) (d : List Op → Decision) (laid cells : List ℕ) (at : ℕ) : Type 0 where
+  pub sized : length cells ≡ largestCount
+  pub high : at ≤ largestCount
   pub placed : List ℕ
-  pub lays : placed ++ laid s ≡ laid r
+  pub lays : placed ++ laid ≡ drop at cells
   pub whole : Says C (λ H. d H ≡ order (ops H placed))
 
 -- THE CONTRACT of every function here that tries orders, where d is its definition
-pub data Gives (C : Cols) (d : List Op → Decision) (s : State) (r : Tried) : Type 0 where
-  no-order : r .failed ≡ true → Says C (λ H. d H ≡ none) → Gives C d s r
-  an-order : r .failed ≡ false → Laid C d s (r .state) → Gives C d s r
+pub data Gives (C : Cols) (d : List Op → Decision) (laid cells : List ℕ) (r : Front) : Type 0 where
+  no-order : r .failed ≡ true → Says C (λ H. d H ≡ none) → Gives C d laid cells r
+  an-order : r .failed ≡ false → Laid C d laid cells (r .at) → Gives C d laid cells r

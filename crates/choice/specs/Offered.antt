@@ -3,7 +3,8 @@
 -- Assumes nothing.
 use Prim.Native.Nat.{ℕ, suc, zero, _+_, _-_, _≤_}
 use mathlib.Core.Bool.{Bool, true, false, not, cond}
-use mathlib.Core.List.{List, [], _∷_, _++_, map, List·Memᴰ as In}
+use mathlib.Core.Path.{_≡_}
+use mathlib.Core.List.{List, [], _∷_, _++_, map}
 use lib.ListN.{length, getD}
 use lib.Dec.{eqb, ltb}
 use Rattle.history.specs.Table.{largestCount}
@@ -12,9 +13,9 @@ use Rattle.history.specs.declared.Op.{Op}
 use Rattle.methods.specs.Zones.{Decision}
 use Rattle.methods.specs.Fzf.{firstViable, listed}
 use Rattle.positions.specs.Places.{Unlike}
-use Rattle.positions.specs.Columns.{ops}
-use Rattle.placing.specs.declared.State.{State}
-use Rattle.placing.specs.States.{left, Whose}
+use Rattle.positions.specs.Columns.{Cols, size, ops}
+use Rattle.freeing.specs.Marks.{Writes}
+use Rattle.freeing.specs.Freed.{Within, Topped}
 
 -- a list of positions, last first
 unfoldable pub backward : List ℕ → List ℕ
@@ -51,16 +52,26 @@ unfoldable pub offers : List ℕ → List ℕ → Bool → List (List ℕ)
 offers t [] swap = offer t [] false swap ∷ []
 offers t (w ∷ b) swap = offer t (w ∷ b) false swap ∷ (offer t (w ∷ b) true swap ∷ [])
 
--- what the caller shows: writes that are not placed, each once, and no more than there is room for
-pub record Offered (writer t b : List ℕ) (s : State) : Type 0 where
-  pub forth : (w : ℕ) → In w t → Whose writer s w
-  pub inner : (w : ℕ) → In w b → Whose writer s w
+-- what the caller shows of a chunk: its writes, each once, no more than there is room for, and lent places for all
+pub record Chunk (C : Cols) (t b turn placed cells : List ℕ) : Type 0 where
+  pub small : size C ≤ largestCount
+  pub writes : Writes (C .writer) (t ++ b)
   pub apart : Pairs Unlike (t ++ b)
   pub room : length t + length b ≤ largestCount
+  pub turns : length turn ≡ largestCount
+  pub marks : length placed ≡ largestCount
+  pub sized : length cells ≡ largestCount
 
--- what the definition says of some orders, and of all those of figure 4, over what is left
-abbrev pub triedBy : List (List ℕ) → State → List Op → Decision
-triedBy orders s H = firstViable (map (ops H) orders) (ops H (left s))
+-- and that nothing else is to be placed, and nothing of it from top on
+pub record Offered (C : Cols) (t b turn placed cells : List ℕ) (top : ℕ) : Type 0 where
+  pub chunk : Chunk C t b turn placed cells
+  pub within : Within (C .writer) (t ++ b) placed
+  pub low : top ≤ length (C .writer)
+  pub topped : Topped (C .writer) (t ++ b) top
 
-abbrev pub chosenBy : List ℕ → List ℕ → State → List Op → Decision
-chosenBy t b s H = firstViable (listed (ops H t) (ops H b)) (ops H (left s))
+-- what the definition says of some orders, and of all those of figure 4, over the positions K
+abbrev pub triedBy : List (List ℕ) → List ℕ → List Op → Decision
+triedBy orders K H = firstViable (map (ops H) orders) (ops H K)
+
+abbrev pub chosenBy : List ℕ → List ℕ → List ℕ → List Op → Decision
+chosenBy t b K H = firstViable (listed (ops H t) (ops H b)) (ops H K)

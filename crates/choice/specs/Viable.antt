@@ -12,7 +12,7 @@ use Rattle.methods.specs.Fzf.{viable}
 use Rattle.positions.specs.Places.{Once}
 use Rattle.positions.specs.Columns.{ops}
 use Rattle.placing.specs.declared.State.{State}
-use Rattle.placing.specs.States.{left, Whose}
+use Rattle.placing.specs.States.{Whose}
 
 -- nothing is asked for, or the write at i
 unfoldable pub follows : List ℕ → ℕ → ℕ → Bool
@@ -23,6 +23,6 @@ pub record Turns (writer T : List ℕ) (s : State) : Type 0 where
   pub whose : (j : ℕ) → j < length T → Whose writer s (getD T j 0)
   pub once : Once T
 
--- what the definition says of the sequence, over what is left
-abbrev pub viableBy : List ℕ → State → List Op → Decision
-viableBy T s H = viable (ops H T) (ops H (left s))
+-- what the definition says of the sequence, over the positions K
+abbrev pub viableBy : List ℕ → List ℕ → List Op → Decision
+viableBy T K H = viable (ops H T) (ops H K)

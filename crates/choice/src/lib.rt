@@ -1,17 +1,34 @@
 // The orders that figure 4 lists for a chunk, tried one by one: the first that is viable.
 use history::Row;
-use placing::State;
-use placing::Tried;
+use placing::Front;
 ghost use mathlib.Core.Path.{_≡_};
-ghost use mathlib.Core.List.{List, [], _∷_, _++_};
+ghost use mathlib.Core.List.{[], _∷_, _++_};
 ghost use Prim.Native.Nat.{ℕ, _+_, _≤_, _<_};
 ghost use lib.ListN.{length, getD, take};
 ghost use Rattle.history.specs.Table.{largestCount};
 ghost use Rattle.positions.specs.Columns.{cols, Sound};
-ghost use Rattle.placing.specs.States.{Holds};
+ghost use Rattle.placing.specs.States.{stateOf, left, laid, Holds, Shrinks};
+ghost use Rattle.freeing.specs.Freed.{Shut, Within, clustersOf};
 ghost use Rattle.choice.specs.Gives.{Gives};
 ghost use Rattle.choice.specs.Viable.{follows, Turns, viableBy};
-ghost use Rattle.choice.specs.Offered.{backward, swapIf, turned, endAt, oneAt, offer, offers, Offered, triedBy, chosenBy};
+ghost use Rattle.choice.specs.Offered.{backward, swapIf, turned, endAt, oneAt, offer, offers, Chunk, Offered, triedBy, chosenBy};
+
+// The marks of what is to be placed, and of what is not.
+const FREE: u8 = 0;
+
+const SHUT: u8 = 1;
+
+// A trial that ends here.
+fn ended(at: usize, top: usize, failed: bool) -> Front
+    ensures { λ r. ⌜ (r .at ≡ at) × (r .failed ≡ failed) ⌝ }
+{
+    Front {
+        at,
+        top,
+        asked: 0,
+        failed,
+    }
+}
 
 // Whether the write that is asked for, if any, is the one at i.
 fn follows(turn: &[u64], i: usize, asked: u64) -> bool
@@ -35,38 +52,34 @@ fn viable(
     last: &[u64],
     prev: &[u64],
     turn: &[u64],
-    s: State,
-) -> Tried
+    placed: &mut [u8],
+    order: &mut [u64],
+    top: usize,
+) -> Front
     requires { ⌜ Sound (cols (now start) (now finish) (now writer) (now last) (now prev)) ⌝ }
-    requires { ⌜ Holds (cols (now start) (now finish) (now writer) (now last) (now prev)) s ⌝ }
-    requires { ⌜ Turns (now writer) (now turn) s ⌝ }
-    ensures { λ r. ⌜ Gives (cols (now (start .entry)) (now (finish .entry)) (now (writer .entry)) (now (last .entry)) (now (prev .entry))) (viableBy (now (turn .entry)) s) s r ⌝ }
+    requires { ⌜ Holds (cols (now start) (now finish) (now writer) (now last) (now prev)) (stateOf (now placed) (now order) largestCount top) ⌝ }
+    requires { ⌜ Turns (now writer) (now turn) (stateOf (now placed) (now order) largestCount top) ⌝ }
+    ensures end { λ r. ⌜ Gives (cols (now (start .entry)) (now (finish .entry)) (now (writer .entry)) (now (last .entry)) (now (prev .entry))) (viableBy (now (turn .entry)) (left (stateOf (now (placed .entry)) (now (order .entry)) largestCount top))) (laid (stateOf (now (placed .entry)) (now (order .entry)) largestCount top)) (now (order .exit)) r ⌝ }
+    ensures marks { λ _. ⌜ Shrinks (length (now (start .entry))) (now (placed .entry)) (now (placed .exit)) ⌝ }
 {
     let n = turn.len();
-    let mut t = s;
+    let mut a = Row::LARGEST_COUNT;
+    let mut k = top;
     let mut i: usize = 0;
     while i < n {
         let w = turn[i] as usize;
         i += 1;
-        let tried = placing::step(start, finish, writer, last, prev, t, w);
-        if tried.failed {
-            return tried;
+        let next = placing::step(start, finish, writer, last, prev, placed, order, a, k, w);
+        if next.failed {
+            return next;
         }
-        if !follows(turn, i, tried.asked) {
-            return Tried {
-                state: t,
-                asked: tried.asked,
-                failed: true,
-            };
+        a = next.at;
+        k = next.top;
+        if !follows(turn, i, next.asked) {
+            return ended(a, k, true);
         }
-        let state = tried.state;
-        t = state;
     }
-    Tried {
-        state: t,
-        asked: 0,
-        failed: false,
-    }
+    ended(a, k, false)
 }
 
 // The place in a list of n from which the list with its first two swapped has its j-th.
@@ -149,7 +162,7 @@ fn lay_out(forwards: &[u64], inner: &[u64], flip: bool, swap: bool, out: &mut [u
     put(inner, front, out, m)
 }
 
-// Tries one order of figure 4.
+// Tries one order of figure 4, with the chunk set free.
 fn attempt(
     start: &[u64],
     finish: &[u64],
@@ -160,16 +173,29 @@ fn attempt(
     inner: &[u64],
     flip: bool,
     swap: bool,
-    s: State,
-) -> Tried
+    turn: &mut [u64],
+    placed: &mut [u8],
+    order: &mut [u64],
+    top: usize,
+) -> Front
     requires { ⌜ Sound (cols (now start) (now finish) (now writer) (now last) (now prev)) ⌝ }
-    requires { ⌜ Holds (cols (now start) (now finish) (now writer) (now last) (now prev)) s ⌝ }
-    requires { ⌜ Offered (now writer) (now forwards) (now inner) s ⌝ }
-    ensures { λ r. ⌜ Gives (cols (now (start .entry)) (now (finish .entry)) (now (writer .entry)) (now (last .entry)) (now (prev .entry))) (triedBy (offer (now (forwards .entry)) (now (inner .entry)) flip swap ∷ []) s) s r ⌝ }
+    requires { ⌜ Offered (cols (now start) (now finish) (now writer) (now last) (now prev)) (now forwards) (now inner) (now turn) (now placed) (now order) top ⌝ }
+    ensures end { λ r. ⌜ Gives (cols (now (start .entry)) (now (finish .entry)) (now (writer .entry)) (now (last .entry)) (now (prev .entry))) (triedBy (offer (now (forwards .entry)) (now (inner .entry)) flip swap ∷ []) (clustersOf (now (writer .entry)) (now (forwards .entry) ++ now (inner .entry)))) [] (now (order .exit)) r ⌝ }
+    ensures marks { λ _. ⌜ Within (now (writer .entry)) (now (forwards .entry) ++ now (inner .entry)) (now (placed .exit)) ⌝ }
 {
-    let mut turn = [0u64; Row::LARGEST_COUNT];
-    let m = lay_out(forwards, inner, flip, swap, &mut turn);
-    viable(start, finish, writer, last, prev, &turn[..m], s)
+    freeing::paint(writer, last, prev, forwards, inner, FREE, placed);
+    let m = lay_out(forwards, inner, flip, swap, turn);
+    viable(
+        start,
+        finish,
+        writer,
+        last,
+        prev,
+        &turn[..m],
+        placed,
+        order,
+        top,
+    )
 }
 
 // Tries the orders with the forward writes swapped, or not.
@@ -182,12 +208,15 @@ fn attempts(
     forwards: &[u64],
     inner: &[u64],
     swap: bool,
-    s: State,
-) -> Tried
+    turn: &mut [u64],
+    placed: &mut [u8],
+    order: &mut [u64],
+    top: usize,
+) -> Front
     requires { ⌜ Sound (cols (now start) (now finish) (now writer) (now last) (now prev)) ⌝ }
-    requires { ⌜ Holds (cols (now start) (now finish) (now writer) (now last) (now prev)) s ⌝ }
-    requires { ⌜ Offered (now writer) (now forwards) (now inner) s ⌝ }
-    ensures { λ r. ⌜ Gives (cols (now (start .entry)) (now (finish .entry)) (now (writer .entry)) (now (last .entry)) (now (prev .entry))) (triedBy (offers (now (forwards .entry)) (now (inner .entry)) swap) s) s r ⌝ }
+    requires { ⌜ Offered (cols (now start) (now finish) (now writer) (now last) (now prev)) (now forwards) (now inner) (now turn) (now placed) (now order) top ⌝ }
+    ensures end { λ r. ⌜ Gives (cols (now (start .entry)) (now (finish .entry)) (now (writer .entry)) (now (last .entry)) (now (prev .entry))) (triedBy (offers (now (forwards .entry)) (now (inner .entry)) swap) (clustersOf (now (writer .entry)) (now (forwards .entry) ++ now (inner .entry)))) [] (now (order .exit)) r ⌝ }
+    ensures marks { λ _. ⌜ Within (now (writer .entry)) (now (forwards .entry) ++ now (inner .entry)) (now (placed .exit)) ⌝ }
 {
     let n = inner.len();
     let one = attempt(
@@ -200,7 +229,10 @@ fn attempts(
         inner,
         false,
         swap,
-        s,
+        turn,
+        placed,
+        order,
+        top,
     );
     if n < 1 {
         return one;
@@ -218,11 +250,70 @@ fn attempts(
         inner,
         true,
         swap,
-        s,
+        turn,
+        placed,
+        order,
+        top,
     )
 }
 
-// The first viable order of those that figure 4 lists for a chunk.
+// Tries the orders that figure 4 lists, none for more than two backward writes.
+fn first(
+    start: &[u64],
+    finish: &[u64],
+    writer: &[u64],
+    last: &[u64],
+    prev: &[u64],
+    forwards: &[u64],
+    inner: &[u64],
+    turn: &mut [u64],
+    placed: &mut [u8],
+    order: &mut [u64],
+    top: usize,
+) -> Front
+    requires { ⌜ Sound (cols (now start) (now finish) (now writer) (now last) (now prev)) ⌝ }
+    requires { ⌜ Offered (cols (now start) (now finish) (now writer) (now last) (now prev)) (now forwards) (now inner) (now turn) (now placed) (now order) top ⌝ }
+    ensures end { λ r. ⌜ Gives (cols (now (start .entry)) (now (finish .entry)) (now (writer .entry)) (now (last .entry)) (now (prev .entry))) (chosenBy (now (forwards .entry)) (now (inner .entry)) (clustersOf (now (writer .entry)) (now (forwards .entry) ++ now (inner .entry)))) [] (now (order .exit)) r ⌝ }
+    ensures marks { λ _. ⌜ Within (now (writer .entry)) (now (forwards .entry) ++ now (inner .entry)) (now (placed .exit)) ⌝ }
+{
+    let n = inner.len();
+    if 2 < n {
+        return ended(0, 0, true);
+    }
+    let one = attempts(
+        start,
+        finish,
+        writer,
+        last,
+        prev,
+        forwards,
+        inner,
+        false,
+        turn,
+        placed,
+        order,
+        top,
+    );
+    if !one.failed {
+        return one;
+    }
+    attempts(
+        start,
+        finish,
+        writer,
+        last,
+        prev,
+        forwards,
+        inner,
+        true,
+        turn,
+        placed,
+        order,
+        top,
+    )
+}
+
+// The first viable order of those that figure 4 lists for a chunk, at the end of the order; the chunk is shut before and after.
 pub fn choose(
     start: &[u64],
     finish: &[u64],
@@ -231,24 +322,30 @@ pub fn choose(
     prev: &[u64],
     forwards: &[u64],
     inner: &[u64],
-    s: State,
-) -> Tried
+    turn: &mut [u64],
+    placed: &mut [u8],
+    order: &mut [u64],
+) -> Front
     requires { ⌜ Sound (cols (now start) (now finish) (now writer) (now last) (now prev)) ⌝ }
-    requires { ⌜ Holds (cols (now start) (now finish) (now writer) (now last) (now prev)) s ⌝ }
-    requires { ⌜ Offered (now writer) (now forwards) (now inner) s ⌝ }
-    ensures { λ r. ⌜ Gives (cols (now (start .entry)) (now (finish .entry)) (now (writer .entry)) (now (last .entry)) (now (prev .entry))) (chosenBy (now (forwards .entry)) (now (inner .entry)) s) s r ⌝ }
+    requires { ⌜ Chunk (cols (now start) (now finish) (now writer) (now last) (now prev)) (now forwards) (now inner) (now turn) (now placed) (now order) ⌝ }
+    requires { ⌜ Shut (length (now writer)) (now placed) ⌝ }
+    ensures end { λ r. ⌜ Gives (cols (now (start .entry)) (now (finish .entry)) (now (writer .entry)) (now (last .entry)) (now (prev .entry))) (chosenBy (now (forwards .entry)) (now (inner .entry)) (clustersOf (now (writer .entry)) (now (forwards .entry) ++ now (inner .entry)))) [] (now (order .exit)) r ⌝ }
+    ensures marks { λ _. ⌜ Shut (length (now (writer .entry))) (now (placed .exit)) ⌝ }
 {
-    let n = inner.len();
-    if 2 < n {
-        return Tried {
-            state: s,
-            asked: 0,
-            failed: true,
-        };
-    }
-    let one = attempts(start, finish, writer, last, prev, forwards, inner, false, s);
-    if !one.failed {
-        return one;
-    }
-    attempts(start, finish, writer, last, prev, forwards, inner, true, s)
+    let top = freeing::above(last, forwards, inner);
+    let found = first(
+        start,
+        finish,
+        writer,
+        last,
+        prev,
+        forwards,
+        inner,
+        turn,
+        placed,
+        order,
+        top,
+    );
+    freeing::paint(writer, last, prev, forwards, inner, SHUT, placed);
+    found
 }

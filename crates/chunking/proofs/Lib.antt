@@ -3,7 +3,7 @@ pub mod Keeping
 pub mod Running
 pub mod Hanging
 pub mod Marking
-pub mod Clearing
 pub mod Sides
 pub mod Runs
-pub mod Freed
+pub mod Enclosing
+pub mod Alone

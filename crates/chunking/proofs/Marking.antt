@@ -16,25 +16,13 @@ use Rattle.lists.specs.Lists.{all}
 use Rattle.lists.proofs.Tests.{test}
 use Rattle.positions.specs.Places.{and}
 use Rattle.placing.specs.States.{isFree}
-use Rattle.chunking.specs.Freed.{unlisted, Marked}
-
--- what is listed in one of two lists
-pub all-append : {A : Type 0} (p : A → Bool) (a b : List A) → all p (a ++ b) ≡ cond (all p a) (all p b) false
-unfolding all
-all-append p [] b = refl
-all-append p (x ∷ a) b = go (p x) (all-append p a b)
-  where
-    go : (t : Bool) → all p (a ++ b) ≡ cond (all p a) (all p b) false → cond t (all p (a ++ b)) false ≡ cond (cond t (all p a) false) (all p b) false
-    go true e = e
-    go false e = refl
+use Rattle.freeing.specs.Marks.{unlisted}
+use Rattle.freeing.proofs.Listing.{all-append, all-one}
+use Rattle.chunking.specs.Inner.{Marked}
 
 yes : (b : Bool) → cond b true false ≡ b
 yes true = refl
 yes false = refl
-
-all-one : {A : Type 0} (p : A → Bool) (x : A) → all p (x ∷ []) ≡ p x
-unfolding all
-all-one p x = yes (p x)
 
 -- the first i of the list are marked
 pub record Marking (list : List ℕ) (i : ℕ) (marks marks₀ : List ℕ) : Type 0 where

@@ -14,7 +14,7 @@ use Rattle.lists.specs.Sorts.{sort}
 use Rattle.lists.specs.Pairs.{Pairs}
 use Rattle.lists.proofs.Tests.{both}
 use Rattle.lists.proofs.Members.{in-keep, keep-ext}
-use Rattle.lists.proofs.Pairs.{pairs-keep}
+use Rattle.lists.proofs.Pairs.{pairs-keep, pairs-map}
 use Rattle.lists.proofs.Sorts.{sort-ordered}
 use Rattle.lists.proofs.Images.{keep-map, sort-keep, getD-in}
 use Rattle.history.specs.declared.Op.{Op}
@@ -25,8 +25,9 @@ use Rattle.methods.specs.Fzf.{Run, forwardWrites, backwardWrites, spans, inner}
 use Rattle.positions.specs.Places.{Unlike}
 use Rattle.positions.specs.Columns.{Cols, size, wr, Sound, op, ops, Of}
 use Rattle.zones.specs.Zones.{zoneBy, Zoned, writesAt, byLow, Inside}
-use Rattle.zones.proofs.ByLow.{by-low-write, by-low-in, by-low-apart, zone-at, by-low}
+use Rattle.zones.proofs.ByLow.{by-low-write, by-low-in, by-low-rises, by-low-apart, zone-at, by-low}
 use Rattle.chunking.specs.Chunks.{faces, lies, side}
+use Rattle.chunking.specs.Inner.{Rises}
 
 -- two tests of which one at most holds
 parts-length : {A : Type 0} (p q : A → Bool) (l : List A) → ((x : A) → q x ≡ not (p x)) → length (keep p l) + length (keep q l) ≤ length l
@@ -52,6 +53,10 @@ module _ (finish late writer : List ℕ) where
   -- each once
   pub side-apart : (b : Bool) → Pairs Unlike (side finish late writer b)
   side-apart b = pairs-keep (faces finish late b) (by-low-apart finish late writer)
+
+  -- by low end
+  pub side-rises : (b : Bool) → Rises finish late (side finish late writer b)
+  side-rises b = pairs-keep (faces finish late b) (pairs-map (by-low-rises finish late writer) (λ x y m n r. r .0))
 
   -- no write is on both sides
   pub sides-unlike : (x y : ℕ) → In x (side finish late writer true) → In y (side finish late writer false) → x ≢ y

@@ -1,3 +1,3 @@
--- The runs of forward zones, the backward clusters inside them, and a chunk's clusters set free.
+-- The runs of forward zones, and the backward clusters inside them.
 pub mod Chunks
-pub mod Freed
+pub mod Inner

@@ -1,23 +1,30 @@
-// FZF's chunks over the columns: the runs of forward zones, the backward zones inside them, the dangling ones, and a chunk's clusters set free.
+// FZF's chunks over the columns: the runs of forward zones, the backward zones inside them, and the dangling ones.
 use history::Row;
-use placing::State;
 ghost use mathlib.Core.Path.{_≡_};
-ghost use mathlib.Core.List.{_++_};
+ghost use mathlib.Core.Bool.{true};
+ghost use mathlib.Core.List.{List};
 ghost use Prim.Native.Nat.{ℕ, _≤_, _<_};
-ghost use lib.ListN.{length, getD, take};
+ghost use lib.ListN.{length, getD, take, drop};
 ghost use Rattle.history.specs.Table.{largestCount};
 ghost use Rattle.lists.specs.Lists.{keep};
 ghost use Rattle.positions.specs.Columns.{Linked};
-ghost use Rattle.placing.specs.States.{laid};
+ghost use Rattle.placing.specs.States.{isFree};
+ghost use Rattle.freeing.specs.Freed.{Shut};
 ghost use Rattle.zones.specs.Zones.{Inside};
 ghost use Rattle.zones.specs.Lay.{clusterAt};
-ghost use Rattle.chunking.specs.Chunks.{faces, lies, Spans, danglesBy, Skips};
-ghost use Rattle.chunking.specs.Freed.{Marked, shut, Opened, Freed};
+ghost use Rattle.chunking.specs.Chunks.{faces, lies, Spans, Skips};
+ghost use Rattle.chunking.specs.Inner.{Rises, Behind, Reaches, Encloses, Sides, Marked, Hangs};
 
 // Where a run of forward zones ends in their list, and its largest high end.
 pub struct Span {
     pub end: usize,
     pub top: u64,
+}
+
+// How many backward writes lie inside a run, and where those behind it begin.
+pub struct Enclosed {
+    pub count: usize,
+    pub next: usize,
 }
 
 // Whether the zone of w is forward, or backward, as asked.
@@ -90,7 +97,7 @@ fn lies(finish: &[u64], late: &[u64], bottom: u64, top: u64, w: usize) -> bool
 }
 
 // Those of the listed writes whose zones lie between bottom and top, at the front of `out`; their number.
-pub fn inner(
+fn inner(
     finish: &[u64],
     late: &[u64],
     list: &[u64],
@@ -117,44 +124,45 @@ pub fn inner(
     m
 }
 
-// Whether the zone of w lies inside no run of the forward zones.
-fn dangles(finish: &[u64], late: &[u64], forwards: &[u64], w: usize) -> bool
-    requires { ⌜ w < length (now finish) ⌝ }
+// Where those with a lower low end than top end, in a list by low end from i on.
+fn reach(finish: &[u64], late: &[u64], list: &[u64], i: usize, top: u64) -> usize
+    requires { ⌜ Inside (now finish) (now list) ⌝ }
     requires { ⌜ length (now late) ≡ length (now finish) ⌝ }
-    requires { ⌜ Inside (now finish) (now forwards) ⌝ }
-    ensures { λ r. ⌜ r ≡ danglesBy (now (finish .entry)) (now (late .entry)) (now (forwards .entry)) w ⌝ }
+    requires { ⌜ i ≤ length (now list) ⌝ }
+    ensures { λ r. ⌜ Reaches (now (finish .entry)) (now (late .entry)) (now (list .entry)) i top r ⌝ }
 {
-    let n = forwards.len();
-    let mut a: usize = 0;
-    while a < n {
-        let z = zones::zone_of(finish, late, forwards[a] as usize);
-        let span = run(finish, late, forwards, a);
-        a = span.end;
-        if lies(finish, late, z.low(), span.top, w) {
-            return false;
+    let n = list.len();
+    let mut k = i;
+    while k < n {
+        let z = zones::zone_of(finish, late, list[k] as usize);
+        if top <= z.low() {
+            return k;
         }
+        k += 1;
     }
-    true
+    k
 }
 
-// The place of the first dangling one of the backward zones from j on, or the end of their list.
-pub fn skip(finish: &[u64], late: &[u64], forwards: &[u64], backwards: &[u64], j: usize) -> usize
-    requires { ⌜ Inside (now finish) (now forwards) ⌝ }
-    requires { ⌜ Inside (now finish) (now backwards) ⌝ }
+// Those of the backward writes, by low end, whose zones lie between bottom and top, at the front of `out`, where those before i lie too low.
+pub fn enclose(
+    finish: &[u64],
+    late: &[u64],
+    list: &[u64],
+    i: usize,
+    bottom: u64,
+    top: u64,
+    out: &mut [u64],
+) -> Enclosed
+    requires { ⌜ Inside (now finish) (now list) ⌝ }
     requires { ⌜ length (now late) ≡ length (now finish) ⌝ }
-    requires { ⌜ j ≤ length (now backwards) ⌝ }
-    ensures { λ r. ⌜ Skips (now (finish .entry)) (now (late .entry)) (now (forwards .entry)) (now (backwards .entry)) j r ⌝ }
+    requires { ⌜ length (now list) ≤ length (now out) ⌝ }
+    requires { ⌜ Rises (now finish) (now late) (now list) ⌝ }
+    requires { ⌜ Behind (now finish) (now late) (now list) i bottom ⌝ }
+    ensures { λ r. ⌜ Encloses (now (finish .entry)) (now (late .entry)) (now (list .entry)) bottom top (now (out .exit)) r ⌝ }
 {
-    let n = backwards.len();
-    let mut i = j;
-    while i < n {
-        let w = backwards[i] as usize;
-        if dangles(finish, late, forwards, w) {
-            return i;
-        }
-        i += 1;
-    }
-    i
+    let next = reach(finish, late, list, i, top);
+    let count = inner(finish, late, &list[i..next], bottom, top, out);
+    Enclosed { count, next }
 }
 
 // Marks the listed places.
@@ -171,58 +179,69 @@ fn mark(list: &[u64], marks: &mut [u8])
     }
 }
 
-// Whether an operation is placed at the outset, by the mark of its write.
-fn shut(m: u8) -> u8
-    ensures { λ r. ⌜ r ≡ shut m ⌝ }
+// Marks the backward writes whose zones lie inside a run of the forward ones, on a clean slice; `list` has room for them.
+pub fn mark_inner(
+    finish: &[u64],
+    late: &[u64],
+    forwards: &[u64],
+    backwards: &[u64],
+    list: &mut [u64],
+    marks: &mut [u8],
+)
+    requires { ⌜ Sides (now finish) (now late) (now forwards) (now backwards) ⌝ }
+    requires { ⌜ length (now backwards) ≤ length (now list) ⌝ }
+    requires { ⌜ ((i : ℕ) → i < length (now backwards) → getD (now backwards) i 0 < length (now marks)) ⌝ }
+    requires { ⌜ ((i : ℕ) → i < length (now marks) → isFree (now marks) i ≡ true) ⌝ }
+    ensures { λ _. ⌜ Hangs (now (finish .entry)) (now (late .entry)) (now (forwards .entry)) (now (backwards .entry)) (now (marks .exit)) ⌝ }
 {
-    if m == 0 { 1 } else { 0 }
-}
-
-// The state with the clusters of the marked writes alone to be placed.
-fn only(writer: &[u64], marks: &[u8], s: State) -> State
-    requires { ⌜ length (now writer) ≤ largestCount ⌝ }
-    requires { ⌜ length (s .placed) ≡ largestCount ⌝ }
-    requires { ⌜ ((j : ℕ) → j < length (now writer) → getD (now writer) j 0 < length (now marks)) ⌝ }
-    ensures { λ r. ⌜ Opened (now (writer .entry)) (now (marks .entry)) s r ⌝ }
-{
-    let n = writer.len();
-    let mut t = s;
-    let mut j: usize = 0;
-    while j < n {
-        let v = writer[j] as usize;
-        let m = shut(marks[v]);
-        t.placed[j] = m;
-        j += 1;
+    let n = forwards.len();
+    let mut a: usize = 0;
+    let mut i: usize = 0;
+    while a < n {
+        let z = zones::zone_of(finish, late, forwards[a] as usize);
+        let span = run(finish, late, forwards, a);
+        a = span.end;
+        let found = enclose(finish, late, backwards, i, z.low(), span.top, list);
+        let k = found.count;
+        mark(&list[..k], marks);
+        i = found.next;
     }
-    t.top = n;
-    t
 }
 
-// The state with the clusters of a run and of the backward zones inside it alone to be placed.
-pub fn free(writer: &[u64], run: &[u64], inner: &[u64]) -> State
-    requires { ⌜ length (now writer) ≤ largestCount ⌝ }
-    requires { ⌜ ((j : ℕ) → j < length (now writer) → getD (now writer) j 0 < largestCount) ⌝ }
-    requires { ⌜ ((i : ℕ) → i < length (now run) → getD (now run) i 0 < largestCount) ⌝ }
-    requires { ⌜ ((i : ℕ) → i < length (now inner) → getD (now inner) i 0 < largestCount) ⌝ }
-    ensures { λ r. ⌜ Freed (now (writer .entry)) (now (run .entry) ++ now (inner .entry)) r ⌝ }
+// The place of the first dangling one of the backward zones from j on, or the end of their list.
+pub fn skip(backwards: &[u64], marks: &[u8], j: usize) -> usize
+    requires { ⌜ ((i : ℕ) → i < length (now backwards) → getD (now backwards) i 0 < length (now marks)) ⌝ }
+    requires { ⌜ j ≤ length (now backwards) ⌝ }
+    ensures { λ r. ⌜ ((finish late forwards : List ℕ) → Hangs finish late forwards (now (backwards .entry)) (now (marks .entry)) → Skips finish late forwards (now (backwards .entry)) j r) ⌝ }
 {
-    let n = writer.len();
-    let mut marks = [0u8; Row::LARGEST_COUNT];
-    mark(run, &mut marks);
-    mark(inner, &mut marks);
-    let s = placing::begin(n);
-    only(writer, &marks, s)
+    let n = backwards.len();
+    let mut i = j;
+    while i < n {
+        let w = backwards[i] as usize;
+        if marks[w] == 0 {
+            return i;
+        }
+        i += 1;
+    }
+    i
 }
 
-// The cluster of the write w, laid down whole.
-pub fn cluster(writer: &[u64], last: &[u64], prev: &[u64], w: usize) -> State
+// The cluster of the write w, laid down whole at the end of the order; where it begins.
+pub fn cluster(
+    writer: &[u64],
+    last: &[u64],
+    prev: &[u64],
+    w: usize,
+    placed: &mut [u8],
+    order: &mut [u64],
+) -> usize
     requires { ⌜ Linked (now writer) (now last) (now prev) ⌝ }
-    requires { ⌜ length (now writer) ≤ largestCount ⌝ }
-    requires { ⌜ w < length (now writer) ⌝ }
-    requires { ⌜ getD (now writer) w 0 ≡ w ⌝ }
-    ensures { λ r. ⌜ (laid r ≡ clusterAt (now (writer .entry)) w) × (length (r .order) ≡ largestCount) × (r .at ≤ largestCount) ⌝ }
+    requires { ⌜ (w < length (now writer)) × (getD (now writer) w 0 ≡ w) ⌝ }
+    requires { ⌜ (length (now writer) ≤ largestCount) × (length (now placed) ≡ largestCount) × (length (now order) ≡ largestCount) ⌝ }
+    requires { ⌜ Shut (length (now writer)) (now placed) ⌝ }
+    ensures end { λ r. ⌜ (drop r (now (order .exit)) ≡ clusterAt (now (writer .entry)) w) × (r ≤ largestCount) ⌝ }
+    ensures marks { λ _. ⌜ Shut (length (now (writer .entry))) (now (placed .exit)) ⌝ }
 {
-    let n = writer.len();
-    let s = placing::begin(n);
-    placing::own(writer, last, prev, s, w)
+    freeing::dye(writer, last, prev, w, 0, placed);
+    placing::own(writer, last, prev, placed, order, Row::LARGEST_COUNT, w)
 }

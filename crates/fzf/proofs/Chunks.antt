@@ -4,9 +4,9 @@ use Prim.Native.Nat.{ℕ, _+_, _≤_, _<_}
 use mathlib.Core.Path.{_≡_, ap, sym, _∙_}
 use mathlib.Core.Bool.{Bool, true, false}
 use mathlib.Core.Logic.{_⊎_, inl, inr}
-use mathlib.Core.List.{List, [], _∷_, _++_, append-nil, List·Memᴰ as In, List·Memᴰ·append-cases, Memᴰ·append-left, Memᴰ·append-right}
+use mathlib.Core.List.{List, [], _∷_, _++_, append-nil, List·Memᴰ as In, List·Memᴰ·append-cases}
 use native.Mathlib.Omega.{arith}
-use lib.ListN.{length, getD, drop, drop-of-length-le}
+use lib.ListN.{length, getD, drop}
 use lib.Seq.{drop-cons}
 use Rattle.lists.specs.Lists.{keep}
 use Rattle.lists.proofs.Members.{in-keep}
@@ -18,18 +18,18 @@ use Rattle.methods.specs.declared.Zone.{Zone}
 use Rattle.methods.specs.Zones.{order, low, zoneOf}
 use Rattle.methods.specs.Fzf.{chunk, inner, listed, firstViable, only, made}
 use Rattle.positions.specs.Columns.{Cols, size, wr, Sound, op, ops, Of}
-use Rattle.placing.specs.declared.State.{State}
-use Rattle.placing.specs.declared.Tried.{Tried}
-use Rattle.placing.specs.States.{left, laid, Holds}
+use Rattle.placing.specs.declared.Front.{Front}
 use Rattle.zones.specs.Zones.{zoneBy, Zoned, Inside}
 use Rattle.zones.proofs.ByLow.{by-low-length, zone-at}
 use Rattle.choice.specs.Gives.{Gives, no-order as none-chosen, an-order as one-chosen}
-use Rattle.choice.specs.Offered.{Offered, chosenBy}
+use Rattle.choice.specs.Offered.{Chunk, chosenBy}
 use Rattle.chunking.specs.Chunks.{lies, side}
-use Rattle.chunking.specs.Freed.{Freed}
-use Rattle.chunking.proofs.Sides.{side-write, side-in, side-inside, side-apart, sides-unlike, sides-length, inner-is}
-use Rattle.chunking.proofs.Freed.{only-left, only-holds, freed-whose}
-use Rattle.fzf.specs.Items.{forths, backs, Cut, runOf, Chunked, no-order, an-order}
+use Rattle.chunking.specs.Inner.{Sides}
+use Rattle.freeing.specs.Marks.{Writes}
+use Rattle.freeing.specs.Freed.{clustersOf}
+use Rattle.freeing.proofs.Freed.{clusters-only}
+use Rattle.chunking.proofs.Sides.{side-write, side-in, side-inside, side-apart, side-rises, sides-unlike, sides-length, inner-is}
+use Rattle.fzf.specs.Items.{forths, backs, Cut, runOf, Lent, Chunked, no-order, an-order}
 
 -- The lists of writes are of positions, and each has room in an array.
 module _ (C : Cols) (p : Sound C) (late : List ℕ) (g : Zoned C late) where
@@ -41,6 +41,16 @@ module _ (C : Cols) (p : Sound C) (late : List ℕ) (g : Zoned C late) where
 
   pub sides-few : length (forths C late) + length (backs C late) ≤ size C
   sides-few = omega (arith, sides-length (C .finish) late (C .writer), by-low-length (C .finish) late (C .writer), p .shape .long)
+
+  -- as the pass over the runs asks for them
+  pub both-sides : (F B : List ℕ) → F ≡ forths C late → B ≡ backs C late → Sides (C .finish) late F B
+  both-sides F B x y =
+      record {
+        long = late-long;
+        forth = rw x (sides-inside true);
+        back = rw y (sides-inside false);
+        rises = rw y (side-rises (C .finish) late (C .writer) false);
+      }
 
   pub run-inside : (run : List ℕ) → Cut C late run → getD run 0 0 < length (C .finish)
   run-inside run k = omega (arith, side-write C p late true (k .among _ (getD-in run 0 0 (k .some))) .0, p .ending)
@@ -61,72 +71,58 @@ module _ (C : Cols) (p : Sound C) (n : size C ≤ 1024) (late : List ℕ) (g : Z
   inner-write x m = side-write C p late false (inner-in m)
 
   -- all of the chunk's writes
-  chunk-write : (x : ℕ) → In x (run ++ I) → (x < size C) × (wr C x ≡ x)
-  chunk-write x m = go (List·Memᴰ·append-cases run m)
+  chunk-writes : Writes (C .writer) (run ++ I)
+  chunk-writes x m = let k = go (List·Memᴰ·append-cases run m) in (omega (arith, k .0, p .shape .long), k .1)
     where
       go : In x run ⊎ In x I → (x < size C) × (wr C x ≡ x)
       go (inl i) = run-write x i
       go (inr i) = inner-write x i
 
-  -- what the freeing requires
-  pub run-small : (i : ℕ) → i < length run → getD run i 0 < 1024
-  run-small i l = omega (arith, run-write _ (getD-in run 0 i l) .0)
+  -- what the choice requires
+  pub chunk-choice : (list turn placed part : List ℕ) → Lent list turn placed part → Chunk C run I turn placed part
+  chunk-choice list turn placed part l =
+      record {
+        small = n;
+        writes = chunk-writes;
+        apart =
+            pairs-append (k .apart) (pairs-keep (lies (C .finish) late bottom top) (side-apart (C .finish) late (C .writer) false))
+            (λ x y m i. sides-unlike (C .finish) late (C .writer) x y (k .among x m) (inner-in i));
+        room =
+            omega (
+              arith,
+              k .few,
+              keep-length (lies (C .finish) late bottom top) (backs C late),
+              sides-few C p late g,
+            );
+        turns = l .turns;
+        marks = l .marks;
+        sized = l .cells;
+      }
 
-  pub inner-small : (i : ℕ) → i < length I → getD I i 0 < 1024
-  inner-small i l = omega (arith, inner-write _ (getD-in I 0 i l) .0)
+  module _ (H : List Op) (o : Of C H) where
+    whole-run : op H (getD run 0 0) ∷ ops H (drop 1 run) ≡ ops H run
+    whole-run = ap (ops H) (sym (drop-cons run 0 0 (k .some)))
 
-  module _ (s : State) (f : Freed (C .writer) (run ++ I) s) where
-    -- what the choice requires
-    pub chunk-holds : Holds C s
-    chunk-holds = only-holds C p n f
+    first-zone : bottom ≡ low (zoneOf H (op H (getD run 0 0)))
+    first-zone = e ∙ ap (λ (z : Zone). low z) (sym (zone-at o late g (side-in (C .finish) late (C .writer) true (k .among _ (getD-in run 0 0 (k .some))))))
 
-    pub chunk-offered : Offered (C .writer) run I s
-    chunk-offered =
-        record {
-          forth = λ w m. let k = run-write w m in freed-whose f w (Memᴰ·append-left I m) (omega (arith, k .0, p .shape .long)) (k .1);
-          inner = λ w m. let k = inner-write w m in freed-whose f w (Memᴰ·append-right run m) (omega (arith, k .0, p .shape .long)) (k .1);
-          apart =
-              pairs-append (k .apart) (pairs-keep (lies (C .finish) late bottom top) (side-apart (C .finish) late (C .writer) false))
-              (λ x y m i. sides-unlike (C .finish) late (C .writer) x y (k .among x m) (inner-in i));
-          room =
-              omega (
-                arith,
-                k .few,
-                keep-length (lies (C .finish) late bottom top) (backs C late),
-                sides-few C p late g,
-              );
-        }
+    made-is : made H (chunk (runOf H run top)) ≡ firstViable (listed (ops H run) (ops H I)) (ops H (clustersOf (C .writer) (run ++ I)))
+    unfolding made
+    made-is =
+        let a = whole-run in
+        let b : inner H (runOf H run top) ≡ ops H I = sym (inner-is o late g (runOf H run top) bottom first-zone) in
+        let c : only (ops H run ++ ops H I) H ≡ ops H (clustersOf (C .writer) (run ++ I)) = ap (λ (l : List Op). only l H) (sym (map-append (op H) run I)) ∙ sym (clusters-only o (run ++ I) chunk-writes) in
+        ap (λ (i : List Op). firstViable (listed (op H (getD run 0 0) ∷ ops H (drop 1 run)) i) (only ((op H (getD run 0 0) ∷ ops H (drop 1 run)) ++ i) H)) b
+        ∙ ap (λ (t : List Op). firstViable (listed t (ops H I)) (only (t ++ ops H I) H)) a
+        ∙ ap (λ (x : List Op). firstViable (listed (ops H run) (ops H I)) x) c
 
-    -- nothing is laid yet
-    none-laid : laid s ≡ []
-    none-laid = rw (f .at) (drop-of-length-le (s .order) {i = 1024} (omega (arith, f .cells)))
-
-    module _ (H : List Op) (o : Of C H) where
-      whole-run : op H (getD run 0 0) ∷ ops H (drop 1 run) ≡ ops H run
-      whole-run = ap (ops H) (sym (drop-cons run 0 0 (k .some)))
-
-      first-zone : bottom ≡ low (zoneOf H (op H (getD run 0 0)))
-      first-zone = e ∙ ap (λ (z : Zone). low z) (sym (zone-at o late g (side-in (C .finish) late (C .writer) true (k .among _ (getD-in run 0 0 (k .some))))))
-
-      made-is : made H (chunk (runOf H run top)) ≡ firstViable (listed (ops H run) (ops H I)) (ops H (left s))
-      unfolding made
-      made-is =
-          let a = whole-run in
-          let b : inner H (runOf H run top) ≡ ops H I = sym (inner-is o late g (runOf H run top) bottom first-zone) in
-          let c : only (ops H run ++ ops H I) H ≡ ops H (left s) = ap (λ (l : List Op). only l H) (sym (map-append (op H) run I)) ∙ sym (only-left o chunk-write f) in
-          ap (λ (i : List Op). firstViable (listed (op H (getD run 0 0) ∷ ops H (drop 1 run)) i) (only ((op H (getD run 0 0) ∷ ops H (drop 1 run)) ++ i) H)) b
-          ∙ ap (λ (t : List Op). firstViable (listed t (ops H I)) (only (t ++ ops H I) H)) a
-          ∙ ap (λ (x : List Op). firstViable (listed (ops H run) (ops H I)) x) c
-
-    pub chunk-made : (r : Tried) → Gives C (chosenBy run I s) s r → Chunked C run top r
-    chunk-made r (none-chosen q d) = no-order q (λ H o. made-is H o ∙ d H o)
-    chunk-made r (one-chosen q x) =
-        an-order q
-        (record {
-          cells = x .holds .ready .cells;
-          high = x .holds .ready .high;
-          whole = λ H o. made-is H o ∙ x .whole H o ∙ ap (λ (l : List ℕ). order (ops H l)) placed-all;
-        })
-      where
-        placed-all : x .placed ≡ laid (r .state)
-        placed-all = sym (append-nil (x .placed)) ∙ ap (λ (l : List ℕ). x .placed ++ l) (sym none-laid) ∙ x .lays
+  pub chunk-made : (part : List ℕ) (r : Front) → Gives C (chosenBy run I (clustersOf (C .writer) (run ++ I))) [] part r → Chunked C run top part (r .at) (r .failed)
+  chunk-made part r (none-chosen q d) = rw q (no-order (λ H o. made-is H o ∙ d H o))
+  chunk-made part r (one-chosen q x) =
+      rw q
+      (an-order
+      (record {
+        cells = x .sized;
+        high = x .high;
+        whole = λ H o. made-is H o ∙ x .whole H o ∙ ap (λ (l : List ℕ). order (ops H l)) (sym (append-nil (x .placed)) ∙ x .lays);
+      }))

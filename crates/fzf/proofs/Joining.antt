@@ -6,8 +6,8 @@ use mathlib.Core.Bool.{Bool, true, false, cond}
 use mathlib.Core.Logic.{_⊎_, inl, inr}
 use mathlib.Core.List.{List, [], _∷_, _++_, flatMap, append-nil, append-assoc, List·Memᴰ as In, List·Memᴰ·head as here, List·Memᴰ·append-cases}
 use native.Mathlib.Omega.{arith}
-use lib.ListN.{length, take, drop, length-append, length-map, drop-of-length-le}
-use lib.Seq.{length-take-le}
+use lib.ListN.{length, take, drop, replicate, length-append, length-map, length-drop, length-replicate, getD-replicate, drop-of-length-le}
+use lib.Seq.{take-all, length-take-le}
 use lib.Dec.{leb}
 use borrow.Author.Tests.{leb-true, leb-false, le-leb}
 use Rattle.lists.specs.Lists.{keep}
@@ -19,9 +19,9 @@ use Rattle.history.specs.declared.Op.{Op}
 use Rattle.methods.specs.Zones.{order}
 use Rattle.methods.specs.Fzf.{Item, runs, dangles, made, items, putBefore, join, fzf}
 use Rattle.methods.specs.Mark.{untried}
-use Rattle.positions.specs.Columns.{Cols, size, op, ops, Of, Says}
+use Rattle.positions.specs.Columns.{Cols, size, Sound, op, ops, Of, Says}
 use Rattle.positions.proofs.Columns.{size-is}
-use Rattle.placing.specs.States.{laid}
+use Rattle.placing.specs.States.{isFree}
 use Rattle.placing.specs.Searched.{Searched, is-stale, is-fresh}
 use Rattle.zones.specs.Zones.{Zoned}
 use Rattle.viability.proofs.Two.{orderOf, made-order, join-done, done-short}
@@ -31,7 +31,7 @@ use Rattle.chunking.proofs.Runs.{dangles-is}
 use Rattle.fzf.specs.declared.Next.{Next}
 use Rattle.fzf.specs.Merge.{merge}
 use Rattle.fzf.specs.Next.{overAt, Waiting}
-use Rattle.fzf.specs.Items.{Known, forths, backs, remaining, Goes, Nexts, ends, goes}
+use Rattle.fzf.specs.Items.{Known, forths, backs, Lent, Poised, remaining, Goes, Nexts, ends, goes}
 use Rattle.fzf.proofs.Merged.{items-merge}
 
 -- the items that are done, and what their orders are
@@ -63,7 +63,7 @@ unfolding overAt
 over-false f b a j e h = leb-false b j (rw (le-leb f a h) at e)
 
 -- an item that does not fail goes on
-pub goes-on : {C : Cols} {F B : List ℕ} {a j : ℕ} {r : Next} → Nexts C F B a j r → r .failed ≡ false → Goes C F B a j r
+pub goes-on : {C : Cols} {F B : List ℕ} {a j : ℕ} {part : List ℕ} {r : Next} → Nexts C F B a j part r → r .failed ≡ false → Goes C F B a j part r
 goes-on (ends e x) q = absurd (both e q)
 goes-on (goes e x) q = x
 
@@ -71,6 +71,36 @@ flat-one : (f : Item → List Op) (a : List Item) (i : Item) → flatMap f (a ++
 unfolding flatMap
 flat-one f [] i = append-nil (f i)
 flat-one f (x ∷ a) i = rw (flat-one f a i) (sym (append-assoc (f x) (flatMap f a) (f i)))
+
+-- a part's end, as it is lent
+pub part-whole : (part : List ℕ) (at : ℕ) → length part ≡ 1024 → take (1024 - at) (drop at part) ≡ drop at part
+part-whole part at e = take-all (1024 - at) (drop at part) (rw (length-drop) (omega arith))
+
+-- at the outset everything is shut, and no backward zone was looked at
+pub poised-none : (C : Cols) → Sound C → size C ≤ 1024 → (late F B : List ℕ) → Poised C late F B 0 0 (replicate 1024 1)
+poised-none C p n late F B =
+    record {
+      shut = λ j l. rw (getD-replicate {A = ℕ} 1024 j 1 0 (omega (arith, p .shape .long)));
+      behind = λ l. record { within = omega arith; lows = λ k b. absurd (omega arith) };
+    }
+
+pub lent-none : Lent (replicate 1024 0) (replicate 1024 0) (replicate 1024 1) (replicate 1024 0)
+lent-none =
+    record {
+      inner = length-replicate {A = ℕ} 1024 0;
+      turns = length-replicate {A = ℕ} 1024 0;
+      marks = length-replicate {A = ℕ} 1024 1;
+      cells = length-replicate {A = ℕ} 1024 0;
+    }
+
+-- no place is marked at the outset
+pub unmarked : (i : ℕ) → i < length (replicate {A = ℕ} 1024 0) → isFree (replicate 1024 0) i ≡ true
+unmarked i l = rw (getD-replicate {A = ℕ} 1024 i 0 0 (omega (arith, l, length-replicate {A = ℕ} 1024 0)))
+
+-- after an item the places are as many
+pub lent-again : {list turn placed part : List ℕ} → Lent list turn placed part → (list' turn' placed' part' : List ℕ) → length list' ≡ length list → length turn' ≡ length turn →
+    length placed' ≡ length placed → length part' ≡ length part → Lent list' turn' placed' part'
+lent-again l list' turn' placed' part' a b c d = record { inner = a ∙ l .inner; turns = b ∙ l .turns; marks = c ∙ l .marks; cells = d ∙ l .cells }
 
 module _ (C : Cols) (late : List ℕ) (g : Zoned C late) where
   abbrev F : List ℕ
@@ -147,11 +177,11 @@ module _ (C : Cols) (late : List ℕ) (g : Zoned C late) where
         empty H = rw (drop-of-length-le F h, drop-of-length-le B l) refl
 
     -- an item has no order
-    pub join-fails : (r : Next) → Nexts C F B a j r → r .failed ≡ true → (o : List ℕ) → (allowance : ℕ) →
+    pub join-fails : (part : List ℕ) (r : Next) → Nexts C F B a j part r → r .failed ≡ true → (o : List ℕ) → (allowance : ℕ) →
         Searched C allowance (λ H. untried (fzf H)) (record { order = o; from = 0; to = 0; trials = 0; kind = 0 })
     unfolding fzf join putBefore
-    join-fails r (goes e x) q o allowance = absurd (both q e)
-    join-fails r (ends e x) q w allowance =
+    join-fails part r (goes e x) q o allowance = absurd (both q e)
+    join-fails part r (ends e x) q w allowance =
         is-stale refl (omega arith)
         (λ H o.
         let d = k .whole H o in
@@ -161,10 +191,10 @@ module _ (C : Cols) (late : List ℕ) (g : Zoned C late) where
         ∙ join-done H (d .done) (i ∷ l) (d .made-all)
         ∙ rw (n, join) refl))
 
-    module _ (r : Next) (x : Goes C F B a j r) where
+    module _ (part : List ℕ) (r : Next) (x : Goes C F B a j part r) where
       -- one item more
       more : Says C (λ H. (done : List Item) × (items H ≡ done ++ remaining F B (r .forward) (r .backward) H) ×
-          ((i : Item) → In i done → made H i ≡ order (orderOf H i)) × (flatMap (orderOf H) done ≡ ops H (take m out ++ laid (r .state))))
+          ((i : Item) → In i done → made H i ≡ order (orderOf H i)) × (flatMap (orderOf H) done ≡ ops H (take m out ++ drop (r .at) part)))
       more H o =
           let d = k .whole H o in
           let i = x .item H in
@@ -172,7 +202,7 @@ module _ (C : Cols) (late : List ℕ) (g : Zoned C late) where
             d .done ++ (i ∷ []),
             d .all ∙ ap (λ (l : List Item). d .done ++ l) (x .next H o) ∙ sym (append-assoc (d .done) (i ∷ []) _),
             (λ y n. each y (List·Memᴰ·append-cases (d .done) n)),
-            flat-one (orderOf H) (d .done) i ∙ rw (d .orders, made-order H i _ w) (sym (map-append (op H) (take m out) (laid (r .state)))),
+            flat-one (orderOf H) (d .done) i ∙ rw (d .orders, made-order H i _ w) (sym (map-append (op H) (take m out) (drop (r .at) part))),
           )
         where
           each : (y : Item) → In y (k .whole H o .done) ⊎ In y (x .item H ∷ []) → made H y ≡ order (orderOf H y)
@@ -180,13 +210,13 @@ module _ (C : Cols) (late : List ℕ) (g : Zoned C late) where
           each y (inr (here e)) = rw e (x .holds .whole H o ∙ ap order (sym (made-order H (x .item H) _ (x .holds .whole H o))))
 
       -- what is written is no more than the history has
-      pub join-room : Known C → size C ≤ 1024 → m + length (laid (r .state)) ≤ 1024
+      pub join-room : Known C → size C ≤ 1024 → m + length (drop (r .at) part) ≤ 1024
       join-room (H, o) n =
           let (done, e, f, q) = more H o in
           let s = done-short (o .prepared) done _ e f in
-          omega (arith, s, ap length q, length-map (take m out ++ laid (r .state)) (op H), length-append (take m out) (laid (r .state)), length-take-le m out (omega (arith, k .long, k .few)), size-is o)
+          omega (arith, s, ap length q, length-map (take m out ++ drop (r .at) part) (op H), length-append (take m out) (drop (r .at) part), length-take-le m out (omega (arith, k .long, k .few)), size-is o)
 
-      pub join-on : Known C → size C ≤ 1024 → (out' : List ℕ) (m' : ℕ) → length out' ≡ length out → m' ≡ m + length (laid (r .state)) → take m' out' ≡ take m out ++ laid (r .state) →
+      pub join-on : Known C → size C ≤ 1024 → (out' : List ℕ) (m' : ℕ) → length out' ≡ length out → m' ≡ m + length (drop (r .at) part) → take m' out' ≡ take m out ++ drop (r .at) part →
           Joining C F B out' m' (r .forward) (r .backward)
       join-on w n out' m' l e t =
           record {

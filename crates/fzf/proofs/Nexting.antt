@@ -22,15 +22,14 @@ use Rattle.methods.specs.Fzf.{Run, chunk, dangling, newRun, extend, grow, runs,
 use Rattle.positions.specs.Places.{upto}
 use Rattle.positions.specs.Columns.{Cols, size, readOf, Sound, op, ops, Of}
 use Rattle.positions.proofs.Places.{below}
-use Rattle.placing.specs.declared.State.{State}
-use Rattle.placing.specs.declared.Tried.{Tried}
-use Rattle.placing.specs.States.{laid}
 use Rattle.zones.specs.Zones.{zoneBy, Zoned}
 use Rattle.zones.specs.Lay.{clusterAt}
 use Rattle.zones.proofs.Zone.{cluster-at}
 use Rattle.zones.proofs.ByLow.{zone-at}
 use Rattle.chunking.specs.declared.Span.{Span}
 use Rattle.chunking.specs.Chunks.{Spans, danglesBy}
+use Rattle.chunking.specs.Inner.{Behind}
+use Rattle.chunking.proofs.Enclosing.{span-stop, span-over}
 use Rattle.chunking.proofs.Sides.{side-write, side-in, side-apart}
 use Rattle.chunking.proofs.Runs.{run-cut, dangles-is}
 use Rattle.fzf.specs.Merge.{weave, merge}
@@ -154,11 +153,22 @@ module _ (C : Cols) (p : Sound C) (late : List ℕ) (g : Zoned C late) where
           go true (no-cluster l m) c = rw (clusters-end H o m) refl
           go true (chunk-low l m i) c = rw (clusters-one H o m, first-is H o l m q head-is, i) refl
 
-      pub next-chunk : j ≤ length B → chunkFirst (C .finish) late F B a j ≡ true → (r : Tried) → Chunked C R (span .top) r →
-          Nexts C F B a j (record { state = r .state; failed = r .failed; forward = span .end; backward = j })
-      next-chunk l e r (no-order q c) = ends q (λ H o. (chunk (runOf H R (span .top)), remaining F B (span .end) j H, chunk-next H o e, c H o))
-      next-chunk l e r (an-order q c) =
-          goes q (record { item = λ H. chunk (runOf H R (span .top)); forth = k; back = l; on = omega arith; holds = c; next = λ H o. chunk-next H o e })
+      pub next-chunk : j ≤ length B → chunkFirst (C .finish) late F B a j ≡ true → (part : List ℕ) (at : ℕ) (failed : Bool) → Chunked C R (span .top) part at failed → (i : ℕ) →
+          Nexts C F B a j part (record { at = at; failed = failed; forward = span .end; backward = j; inner = i })
+      next-chunk l e part at true (no-order c) i = ends refl (λ H o. (chunk (runOf H R (span .top)), remaining F B (span .end) j H, chunk-next H o e, c H o))
+      next-chunk l e part at false (an-order c) i =
+          goes refl (record { item = λ H. chunk (runOf H R (span .top)); forth = k; back = l; on = omega arith; holds = c; next = λ H o. chunk-next H o e })
+
+      -- the first of the run is the one at a
+      pub run-first : getD R 0 0 ≡ getD F a 0
+      run-first = rw (part-first F a (span .end) h k) refl
+
+      -- the backward zones that were looked at are too low for the next run
+      pub run-behind : (i : ℕ) → ((limit : ℕ) → low (zoneBy (C .finish) late (getD F a 0)) ≤ limit → span .top ≤ limit → Behind (C .finish) late B i limit) →
+          span .end < length F → Behind (C .finish) late B i (low (zoneBy (C .finish) late (getD F (span .end) 0)))
+      run-behind i q l =
+          let e = span-stop (C .finish) late F a span x l in
+          q _ (omega (arith, e, span-over (C .finish) late F a span x)) e
 
     -- a cluster comes next
     cluster-next : (H : List Op) (o : Of C H) → j < length B → chunkFirst (C .finish) late F B a j ≡ false →
@@ -199,11 +209,11 @@ module _ (C : Cols) (p : Sound C) (late : List ℕ) (g : Zoned C late) where
         go true (chunk-low l m i) c = l
         go false m c = absurd (both c refl)
 
-    pub next-cluster : a ≤ length F → j < length B → chunkFirst (C .finish) late F B a j ≡ false → (s : State) →
-        (laid s ≡ clusterAt (C .writer) (getD B j 0)) × (length (s .order) ≡ 1024) × (s .at ≤ 1024) →
-        Nexts C F B a j (record { state = s; failed = false; forward = a; backward = j + 1 })
+    pub next-cluster : a ≤ length F → j < length B → chunkFirst (C .finish) late F B a j ≡ false → (part : List ℕ) (at : ℕ) → length part ≡ 1024 →
+        (drop at part ≡ clusterAt (C .writer) (getD B j 0)) × (at ≤ 1024) → (i : ℕ) →
+        Nexts C F B a j part (record { at = at; failed = false; forward = a; backward = j + 1; inner = i })
     unfolding made
-    next-cluster h k e s x =
+    next-cluster h k e part at z x i =
         goes refl
         (record {
           item = λ H. dangling (op H (getD B j 0));
@@ -212,11 +222,11 @@ module _ (C : Cols) (p : Sound C) (late : List ℕ) (g : Zoned C late) where
           on = omega arith;
           holds =
               record {
-                cells = x .1;
-                high = x .2;
+                cells = z;
+                high = x .1;
                 whole = λ H o.
                     let w = side-write C p late false (getD-in B 0 j k) in
-                    let q : getD B j 0 ∷ upto (readOf (C .writer) (getD B j 0)) (size C) ≡ laid s = rw (← p .shape .long) (sym (x .0)) in
+                    let q : getD B j 0 ∷ upto (readOf (C .writer) (getD B j 0)) (size C) ≡ drop at part = rw (← p .shape .long) (sym (x .0)) in
                     ap order (cluster-at o (getD B j 0) (w .0) (w .1) ∙ ap (ops H) q);
               };
           next = λ H o. cluster-next H o k e;

@@ -1,12 +1,10 @@
 // FZF over a prepared history in columns: chunks and dangling clusters, each with its order, joined by low end.
 use history::Row;
 use placing::Search;
-use placing::State;
-use placing::Tried;
 ghost use mathlib.Core.Path.{_≡_};
 ghost use mathlib.Core.List.{_++_};
 ghost use Prim.Native.Nat.{ℕ, _+_, _≤_, _<_};
-ghost use lib.ListN.{length, take};
+ghost use lib.ListN.{length, getD, take};
 ghost use Rattle.history.specs.Table.{largestCount};
 ghost use Rattle.methods.specs.Zones.{low};
 ghost use Rattle.methods.specs.Fzf.{fzf};
@@ -14,15 +12,25 @@ ghost use Rattle.methods.specs.Mark.{untried};
 ghost use Rattle.positions.specs.Columns.{cols, Sound};
 ghost use Rattle.placing.specs.Searched.{Searched};
 ghost use Rattle.zones.specs.Zones.{zoneBy, Zoned, Inside, byLow};
-ghost use Rattle.fzf.specs.Items.{Known, forths, backs, Cut, Chunked, Nexts};
+ghost use Rattle.freeing.specs.Freed.{Shut};
+ghost use Rattle.chunking.specs.Inner.{Behind, Hangs};
+ghost use Rattle.fzf.specs.Items.{Known, forths, backs, Cut, Lent, Poised, Chunked, Nexts};
 ghost use Rattle.fzf.specs.Next.{chunkFirst, overAt, Waiting, endedAt};
 
-// What the next item gives: its order, in the state, or that it has none; and where the ones behind it begin.
+// What a chunk gives: where its order begins at the end of the part, or that it has none; and where the backward writes behind it begin.
+struct Ordered {
+    at: usize,
+    failed: bool,
+    next: usize,
+}
+
+// What the next item gives: the same, and where the forward and the backward writes behind it begin.
 pub struct Next {
-    pub state: State,
+    pub at: usize,
     pub failed: bool,
     pub forward: usize,
     pub backward: usize,
+    pub inner: usize,
 }
 
 // The low end of a cluster's zone, by which chunks and dangling clusters are joined.
@@ -34,7 +42,7 @@ fn low_end(finish: &[u64], late: &[u64], w: usize) -> u64
     zones::zone_of(finish, late, w).low()
 }
 
-// The order of a chunk, from the writes of its run and all the backward ones.
+// The order of a chunk, from the writes of its run and all the backward ones, of which those before i lie too low.
 fn chunk(
     start: &[u64],
     finish: &[u64],
@@ -44,20 +52,45 @@ fn chunk(
     late: &[u64],
     run: &[u64],
     backwards: &[u64],
+    i: usize,
     top: u64,
-) -> Tried
+    list: &mut [u64],
+    turn: &mut [u64],
+    placed: &mut [u8],
+    part: &mut [u64],
+) -> Ordered
     requires { ⌜ Sound (cols (now start) (now finish) (now writer) (now last) (now prev)) ⌝ }
     requires { ⌜ length (now start) ≤ largestCount ⌝ }
     requires { ⌜ Zoned (cols (now start) (now finish) (now writer) (now last) (now prev)) (now late) ⌝ }
     requires { ⌜ Cut (cols (now start) (now finish) (now writer) (now last) (now prev)) (now late) (now run) ⌝ }
     requires { ⌜ now backwards ≡ backs (cols (now start) (now finish) (now writer) (now last) (now prev)) (now late) ⌝ }
-    ensures { λ r. ⌜ Chunked (cols (now (start .entry)) (now (finish .entry)) (now (writer .entry)) (now (last .entry)) (now (prev .entry))) (now (run .entry)) top r ⌝ }
+    requires { ⌜ Behind (now finish) (now late) (now backwards) i (low (zoneBy (now finish) (now late) (getD (now run) 0 0))) ⌝ }
+    requires { ⌜ Lent (now list) (now turn) (now placed) (now part) ⌝ }
+    requires { ⌜ Shut (length (now writer)) (now placed) ⌝ }
+    ensures order { λ r. ⌜ Chunked (cols (now (start .entry)) (now (finish .entry)) (now (writer .entry)) (now (last .entry)) (now (prev .entry))) (now (run .entry)) top (now (part .exit)) (r .at) (r .failed) ⌝ }
+    ensures marks { λ _. ⌜ Shut (length (now (writer .entry))) (now (placed .exit)) ⌝ }
+    ensures next { λ r. ⌜ ((limit : ℕ) → low (zoneBy (now (finish .entry)) (now (late .entry)) (getD (now (run .entry)) 0 0)) ≤ limit → top ≤ limit → Behind (now (finish .entry)) (now (late .entry)) (now (backwards .entry)) (r .next) limit) ⌝ }
 {
     let bottom = low_end(finish, late, run[0] as usize);
-    let mut list = [0u64; Row::LARGEST_COUNT];
-    let k = chunking::inner(finish, late, backwards, bottom, top, &mut list);
-    let s = chunking::free(writer, run, &list[..k]);
-    choice::choose(start, finish, writer, last, prev, run, &list[..k], s)
+    let found = chunking::enclose(finish, late, backwards, i, bottom, top, list);
+    let k = found.count;
+    let front = choice::choose(
+        start,
+        finish,
+        writer,
+        last,
+        prev,
+        run,
+        &list[..k],
+        turn,
+        placed,
+        part,
+    );
+    Ordered {
+        at: front.at,
+        failed: front.failed,
+        next: found.next,
+    }
 }
 
 // Whether a chunk comes next: there is one, and no dangling cluster has the lower low end.
@@ -111,7 +144,7 @@ fn append(part: &[u64], order: &mut [u64], m: usize) -> usize
     k
 }
 
-// The next item with its order: the chunk that begins at a, or the dangling cluster at j.
+// The next item with its order at the end of the part: the chunk that begins at a, or the dangling cluster at j.
 fn item(
     start: &[u64],
     finish: &[u64],
@@ -123,6 +156,11 @@ fn item(
     backwards: &[u64],
     a: usize,
     j: usize,
+    i: usize,
+    list: &mut [u64],
+    turn: &mut [u64],
+    placed: &mut [u8],
+    part: &mut [u64],
 ) -> Next
     requires { ⌜ Sound (cols (now start) (now finish) (now writer) (now last) (now prev)) ⌝ }
     requires { ⌜ length (now start) ≤ largestCount ⌝ }
@@ -130,13 +168,16 @@ fn item(
     requires { ⌜ now forwards ≡ forths (cols (now start) (now finish) (now writer) (now last) (now prev)) (now late) ⌝ }
     requires { ⌜ now backwards ≡ backs (cols (now start) (now finish) (now writer) (now last) (now prev)) (now late) ⌝ }
     requires { ⌜ Waiting (now finish) (now late) (now forwards) (now backwards) a j ⌝ }
-    ensures { λ r. ⌜ Nexts (cols (now (start .entry)) (now (finish .entry)) (now (writer .entry)) (now (last .entry)) (now (prev .entry))) (now (forwards .entry)) (now (backwards .entry)) a j r ⌝ }
+    requires { ⌜ Poised (cols (now start) (now finish) (now writer) (now last) (now prev)) (now late) (now forwards) (now backwards) a i (now placed) ⌝ }
+    requires { ⌜ Lent (now list) (now turn) (now placed) (now part) ⌝ }
+    ensures end { λ r. ⌜ Nexts (cols (now (start .entry)) (now (finish .entry)) (now (writer .entry)) (now (last .entry)) (now (prev .entry))) (now (forwards .entry)) (now (backwards .entry)) a j (now (part .exit)) r ⌝ }
+    ensures poised { λ r. ⌜ Poised (cols (now (start .entry)) (now (finish .entry)) (now (writer .entry)) (now (last .entry)) (now (prev .entry))) (now (late .entry)) (now (forwards .entry)) (now (backwards .entry)) (r .forward) (r .inner) (now (placed .exit)) ⌝ }
 {
     if chunk_first(finish, late, forwards, backwards, a, j) {
         let span = chunking::run(finish, late, forwards, a);
         let end = span.end;
         let top = span.top;
-        let tried = chunk(
+        let found = chunk(
             start,
             finish,
             writer,
@@ -145,22 +186,28 @@ fn item(
             late,
             &forwards[a..end],
             backwards,
+            i,
             top,
+            list,
+            turn,
+            placed,
+            part,
         );
-        let state = tried.state;
         return Next {
-            state,
-            failed: tried.failed,
+            at: found.at,
+            failed: found.failed,
             forward: end,
             backward: j,
+            inner: found.next,
         };
     }
-    let state = chunking::cluster(writer, last, prev, backwards[j] as usize);
+    let at = chunking::cluster(writer, last, prev, backwards[j] as usize, placed, part);
     Next {
-        state,
+        at,
         failed: false,
         forward: a,
         backward: j + 1,
+        inner: i,
     }
 }
 
@@ -177,7 +224,7 @@ fn ended(order: [u64; Row::LARGEST_COUNT], m: usize, kind: u64) -> Search
     }
 }
 
-// Joins the items by low end.
+// Joins the items by low end; the backward writes inside a run are marked.
 fn join(
     start: &[u64],
     finish: &[u64],
@@ -187,6 +234,7 @@ fn join(
     late: &[u64],
     forwards: &[u64],
     backwards: &[u64],
+    marks: &[u8],
 ) -> Search
     requires { ⌜ Sound (cols (now start) (now finish) (now writer) (now last) (now prev)) ⌝ }
     requires { ⌜ length (now start) ≤ largestCount ⌝ }
@@ -194,14 +242,21 @@ fn join(
     requires { ⌜ Zoned (cols (now start) (now finish) (now writer) (now last) (now prev)) (now late) ⌝ }
     requires { ⌜ now forwards ≡ forths (cols (now start) (now finish) (now writer) (now last) (now prev)) (now late) ⌝ }
     requires { ⌜ now backwards ≡ backs (cols (now start) (now finish) (now writer) (now last) (now prev)) (now late) ⌝ }
+    requires { ⌜ length (now marks) ≡ largestCount ⌝ }
+    requires { ⌜ Hangs (now finish) (now late) (now forwards) (now backwards) (now marks) ⌝ }
     ensures { λ r. ⌜ ((allowance : ℕ) → Searched (cols (now (start .entry)) (now (finish .entry)) (now (writer .entry)) (now (last .entry)) (now (prev .entry))) allowance (λ H. untried (fzf H)) r) ⌝ }
 {
     let mut order = [0u64; Row::LARGEST_COUNT];
+    let mut part = [0u64; Row::LARGEST_COUNT];
+    let mut list = [0u64; Row::LARGEST_COUNT];
+    let mut turn = [0u64; Row::LARGEST_COUNT];
+    let mut placed = [1u8; Row::LARGEST_COUNT];
     let mut m: usize = 0;
     let mut a: usize = 0;
     let mut j: usize = 0;
+    let mut i: usize = 0;
     loop {
-        j = chunking::skip(finish, late, forwards, backwards, j);
+        j = chunking::skip(backwards, marks, j);
         if over(forwards.len(), backwards.len(), a, j) {
             return ended(order, m, Search::FRESH);
         }
@@ -216,16 +271,20 @@ fn join(
             backwards,
             a,
             j,
+            i,
+            &mut list,
+            &mut turn,
+            &mut placed,
+            &mut part,
         );
         if next.failed {
             return ended(order, 0, Search::STALE);
         }
-        let state = next.state;
-        let part = state.order;
-        let at = state.at;
+        let at = next.at;
         m = append(&part[at..], &mut order, m);
         a = next.forward;
         j = next.backward;
+        i = next.inner;
     }
 }
 
@@ -250,6 +309,16 @@ fn split(
     let f = chunking::part(finish, late, list, true, &mut forwards);
     let mut backwards = [0u64; Row::LARGEST_COUNT];
     let b = chunking::part(finish, late, list, false, &mut backwards);
+    let mut room = [0u64; Row::LARGEST_COUNT];
+    let mut marks = [0u8; Row::LARGEST_COUNT];
+    chunking::mark_inner(
+        finish,
+        late,
+        &forwards[..f],
+        &backwards[..b],
+        &mut room,
+        &mut marks,
+    );
     join(
         start,
         finish,
@@ -259,6 +328,7 @@ fn split(
         late,
         &forwards[..f],
         &backwards[..b],
+        &marks,
     )
 }
 

@@ -85,19 +85,19 @@ module _ (C : Cols) (p : Sound C) (w : ℕ) (s : State) where
       front : (r : Tried) (x : Went C v t r) → segment (op H v) (ops H (left t)) ++ ops H (g .order) ≡ ops H (x .order ++ g .order)
       front r x = ap (λ (l : List Op). l ++ ops H (g .order)) (x .segments H f) ∙ sym (map-append (op H) (x .order) (g .order))
 
-    pub run-fails : (r : Tried) → Stepped C v t r → r .failed ≡ true → Ran C w s r
+    pub run-fails : (r : Tried) → Stepped C v t r → r .failed ≡ true → Ran C w s (record { state = s; asked = 0; failed = true })
     unfolding behind
-    run-fails r (fails e b) y = loses y (λ H f. one H f bad (step-bad C p v t (g .holds) (g .whose) H f b))
+    run-fails r (fails e b) y = loses refl (λ H f. one H f bad (step-bad C p v t (g .holds) (g .whose) H f b))
     run-fails r (goes e x) y = absurd (both y e)
 
     ahead : (r : Tried) (x : Went C v t r) → (x .order ++ g .order) ++ laid s ≡ laid (r .state)
     ahead r x = append-assoc (x .order) (g .order) (laid s) ∙ ap (λ (l : List ℕ). x .order ++ l) (g .lays) ∙ x .lays
 
-    pub run-ends : (r : Tried) → Stepped C v t r → r .failed ≡ false → r .asked ≡ 0 → Ran C w s r
+    pub run-ends : (r : Tried) → Stepped C v t r → r .failed ≡ false → r .asked ≡ 0 → Ran C w s (record { state = r .state; asked = 0; failed = false })
     unfolding behind
     run-ends r (fails e b) y z = absurd (both e y)
     run-ends r (goes e x) y z =
-        wins y
+        wins refl
         (record {
           holds = x .holds;
           less = omega (arith, x .less, g .less);

@@ -38,19 +38,47 @@ fn epoch(
     requires { ⌜ Whose (now writer) s w ⌝ }
     ensures { λ r. ⌜ Ran (cols (now (start .entry)) (now (finish .entry)) (now (writer .entry)) (now (last .entry)) (now (prev .entry))) w s r ⌝ }
 {
-    let mut t = s;
+    let mut placed = s.placed;
+    let mut order = s.order;
+    let mut at = s.at;
+    let mut top = s.top;
     let mut v = w;
     loop {
-        let tried = placing::step(start, finish, writer, last, prev, t, v);
-        if tried.failed {
-            return tried;
+        let next = placing::step(
+            start,
+            finish,
+            writer,
+            last,
+            prev,
+            &mut placed,
+            &mut order,
+            at,
+            top,
+            v,
+        );
+        if next.failed {
+            return Tried {
+                state: s,
+                asked: 0,
+                failed: true,
+            };
         }
-        if tried.asked == 0 {
-            return tried;
+        at = next.at;
+        top = next.top;
+        if next.asked == 0 {
+            let state = State {
+                placed,
+                order,
+                at,
+                top,
+            };
+            return Tried {
+                state,
+                asked: 0,
+                failed: false,
+            };
         }
-        v = (tried.asked - 1) as usize;
-        let state = tried.state;
-        t = state;
+        v = (next.asked - 1) as usize;
     }
 }
 

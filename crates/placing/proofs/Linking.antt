@@ -15,7 +15,7 @@ use Rattle.positions.specs.Places.{upto, and, latest}
 use Rattle.positions.specs.Columns.{mine, readOf, Linked}
 use Rattle.positions.proofs.Places.{below, upto-parts, upto-stop, upto-some, no-cond}
 use Rattle.positions.proofs.Latest.{latest-le, latest-none, latest-at}
-use Rattle.placing.specs.States.{isFree, laid, Ready, Whose}
+use Rattle.placing.specs.States.{isFree, laid, stateOf, Ready, Whose}
 use Rattle.placing.specs.Owned.{Mine, Owned}
 use Rattle.placing.specs.declared.State.{State}
 use Rattle.placing.proofs.Moved.{Moved, moved-none, moved-down, moved-push, laid-push}
@@ -137,3 +137,7 @@ module _ (writer last prev : List ℕ) (w : ℕ) (p : Linked writer last prev) (
         frees j l (inr e) =
             let d : j ≢ w = eqb-false j w e in
             rw (getD-set-other (t .placed) w j 1 0 d) (other j d _ _ _ refl refl refl l)
+
+-- the top plays no part in it
+pub own-any : (writer : List ℕ) (w : ℕ) (s r : State) → Owned writer w s r → (top : ℕ) → Owned writer w (stateOf (s .placed) (s .order) (s .at) top) (stateOf (r .placed) (r .order) (r .at) top)
+own-any writer w s r o top = record { marks = o .marks; cells = o .cells; high = o .high; top = refl; order = o .order; free = o .free }

@@ -12,9 +12,9 @@ use borrow.Author.Tests.{ltb-true, lt-ltb, le-ltb, eqb-true, eqb-false, eq-eqb, 
 use Rattle.lists.proofs.Tests.{both}
 use Rattle.positions.specs.Places.{upto, and}
 use Rattle.positions.specs.Columns.{Shaped}
-use Rattle.positions.proofs.Places.{below, upto-empty, upto-parts, no-cond}
+use Rattle.positions.proofs.Places.{below, upto-empty, upto-parts, no-cond, cond-both}
 use Rattle.placing.specs.Rules.{clash, ask}
-use Rattle.placing.specs.States.{isFree, Ready}
+use Rattle.placing.specs.States.{isFree, Ready, Shrinks}
 use Rattle.placing.specs.Scanned.{late, Late, Met, Asks, Kinds, Asking, Broken, a-write, two, Passed, Scanned, passed}
 use Rattle.placing.specs.declared.State.{State}
 use Rattle.placing.proofs.Moved.{Moved, moved-none, moved-down, moved-push}
@@ -83,6 +83,14 @@ module _ (start writer : List ℕ) (w bound : ℕ) where
         kinds = λ j m. absurd (omega (arith, m .from, m .under));
         asks = inl refl;
       }
+
+  -- what is marked was free, and is late
+  pub scan-shrinks : (s t : State) (asked : ℕ) → Passing s t asked → (n : ℕ) → Shrinks n (s .placed) (t .placed)
+  scan-shrinks s t asked g n j l e = go (Late start writer w bound s j) refl
+    where
+      go : (b : Bool) → Late start writer w bound s j ≡ b → isFree (s .placed) j ≡ true
+      go true q = cond-both _ _ q .0
+      go false q = sym (ap (λ (x : ℕ). eqb x 0) (g .moved .kept j (inr q))) ∙ e
 
   -- one position down from k = t .top, to i, which is late
   module _ (s t : State) (asked i : ℕ) (e : t .top ≡ i + 1) (g : Passing s t asked) (l : bound < getD start i 0) where

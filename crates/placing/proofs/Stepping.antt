@@ -20,12 +20,25 @@ use Rattle.positions.specs.Columns.{Cols, size, wr, isRead, mine, Sound, op, op
 use Rattle.positions.proofs.Places.{below, upto-ext, upto-stop, upto-parts, upto-some, no-cond, cond-assoc, cond-both}
 use Rattle.positions.proofs.Ops.{keep-ops}
 use Rattle.positions.proofs.Columns.{size-is, start-is, finish-is, own-is, same-is}
-use Rattle.placing.specs.States.{isFree, left, laid, Ready, Holds, Whose}
+use Rattle.placing.specs.States.{isFree, left, laid, stateOf, Ready, Holds, Whose, Shrinks}
 use Rattle.placing.specs.Scanned.{late, Asking, Passed, Scanned, broke, passed}
 use Rattle.placing.specs.Owned.{Mine, Owned}
 use Rattle.placing.specs.Stepped.{ending, Stepped, fails, goes}
 use Rattle.placing.specs.declared.State.{State}
 use Rattle.placing.specs.declared.Tried.{Tried}
+
+-- a state is ready with any higher top, for nothing is left there
+pub ready-whole : {n : ℕ} {s : State} → Ready n s → Ready n (stateOf (s .placed) (s .order) (s .at) n)
+ready-whole {n} {s} r =
+    record {
+      size = r .size;
+      within = omega arith;
+      marks = r .marks;
+      cells = r .cells;
+      high = r .high;
+      room = omega (arith, r .room, ap length (upto-stop (isFree (s .placed)) (s .top) n (r .within) (r .above)));
+      above = λ j a b. absurd (omega arith);
+    }
 
 module _ (C : Cols) (p : Sound C) (w : ℕ) (s : State) (h : Holds C s) (k : Whose (C .writer) s w) where
   abbrev bound : ℕ
@@ -242,14 +255,21 @@ module _ (C : Cols) (p : Sound C) (w : ℕ) (s : State) (h : Holds C s) (k : Who
   step-fails q (broke e b) f = fails f b
   step-fails q (passed e g) f = absurd (both f e)
 
-  -- what the chain requires after the scan
-  pub after-ready : (q : Tried) → End q → q .failed ≡ false → Ready (length (C .writer)) (q .state)
-  after-ready q (broke e b) f = absurd (both e f)
-  after-ready q (passed e g) f = rw (p .shape .long) (scan-ready C p w s h k (q .state) (q .asked) g)
+  -- what the chain requires after the scan, whose top plays no part in it
+  abbrev Whole : State → State
+  Whole t = stateOf (t .placed) (t .order) (t .at) (length (C .writer))
 
-  pub after-whose : (q : Tried) → End q → q .failed ≡ false → Whose (C .writer) (q .state) w
+  pub after-ready : (q : Tried) → End q → q .failed ≡ false → Ready (length (C .writer)) (Whole (q .state))
+  after-ready q (broke e b) f = absurd (both e f)
+  after-ready q (passed e g) f = ready-whole {s = q .state} (rw (p .shape .long) (scan-ready C p w s h k (q .state) (q .asked) g))
+
+  pub after-whose : (q : Tried) → End q → q .failed ≡ false → Whose (C .writer) (Whole (q .state)) w
   after-whose q (broke e b) f = absurd (both e f)
-  after-whose q (passed e g) f = scan-whose C p w s h k (q .state) (q .asked) g
+  after-whose q (passed e g) f = let x = scan-whose C p w s h k (q .state) (q .asked) g in record { inside = x .inside; write = x .write; free = x .free }
+
+  -- the chain frees nothing
+  pub own-shrinks : {t r : State} → Owned (C .writer) w t r → Shrinks (size C) (t .placed) (r .placed)
+  own-shrinks o j l e = cond-both _ _ (sym (o .free j (omega (arith, p .shape .long))) ∙ e) .0
 
   pub step-goes : (q : Tried) → End q → q .failed ≡ false → (r : State) → Owned (C .writer) w (q .state) r
       → Stepped C w s (record { state = r; asked = q .asked; failed = false })

@@ -10,6 +10,8 @@ use Rattle.history.specs.Table.{largestCount}
 use Rattle.positions.specs.Places.{upto}
 use Rattle.positions.specs.Columns.{Cols, size, wr}
 use Rattle.placing.specs.declared.State.{State}
+use Rattle.placing.specs.declared.Front.{Front}
+use Rattle.placing.specs.declared.Tried.{Tried}
 
 -- the operation at j is not placed
 abbrev pub isFree : List ℕ → ℕ → Bool
@@ -26,6 +28,17 @@ laid s = drop (s .at) (s .order)
 -- the state before anything is placed
 unfoldable pub begun : ℕ → State
 begun n = record { placed = replicate largestCount 0; order = replicate largestCount 0; at = largestCount; top = n }
+
+-- the state of lent marks and a lent order, and what was tried with them
+abbrev pub stateOf : List ℕ → List ℕ → ℕ → ℕ → State
+stateOf placed order at top = record { placed = placed; order = order; at = at; top = top }
+
+abbrev pub triedOf : List ℕ → List ℕ → Front → Tried
+triedOf placed order r = record { state = stateOf placed order (r .at) (r .top); asked = r .asked; failed = r .failed }
+
+-- nothing of the n operations is set free
+abbrev pub Shrinks : ℕ → List ℕ → List ℕ → Type 0
+Shrinks n old placed = (j : ℕ) → j < n → isFree placed j ≡ true → isFree old j ≡ true
 
 -- a state of n operations with room for those that are left, of which none is from the top on
 pub record Ready (n : ℕ) (s : State) : Type 0 where

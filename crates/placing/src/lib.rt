@@ -1,12 +1,12 @@
 // The placing step over the columns of a prepared history: marks on positions, and an order that is filled from the back.
 use history::Row;
 ghost use mathlib.Core.Path.{_≡_};
-ghost use Prim.Native.Nat.{_<_};
+ghost use Prim.Native.Nat.{ℕ, _<_};
 ghost use lib.ListN.{length};
 ghost use Rattle.history.specs.Table.{largestCount};
 ghost use Rattle.positions.specs.Columns.{cols, Linked, Shaped, Sound};
 ghost use Rattle.placing.specs.Rules.{clash, ask};
-ghost use Rattle.placing.specs.States.{begun, Ready, Holds, Whose};
+ghost use Rattle.placing.specs.States.{begun, stateOf, triedOf, Ready, Holds, Whose, Shrinks};
 ghost use Rattle.placing.specs.Scanned.{Scanned};
 ghost use Rattle.placing.specs.Owned.{Owned};
 ghost use Rattle.placing.specs.Stepped.{Stepped};
@@ -19,7 +19,15 @@ pub struct State {
     pub top: usize,
 }
 
-// What a scan or a step gives: the write that it asks for plus one, 0 for none.
+// What a scan or a step gives beside the lent marks and order: the write that it asks for plus one, 0 for none.
+pub struct Front {
+    pub at: usize,
+    pub top: usize,
+    pub asked: u64,
+    pub failed: bool,
+}
+
+// The same with the state.
 pub struct Tried {
     pub state: State,
     pub asked: u64,
@@ -69,71 +77,89 @@ fn ask(v: u64, w: u64, asked: u64) -> u64
 }
 
 // Places what starts after `bound`, from the top down.
-fn scan(start: &[u64], writer: &[u64], s: State, w: u64, bound: u64) -> Tried
+fn scan(
+    start: &[u64],
+    writer: &[u64],
+    placed: &mut [u8],
+    order: &mut [u64],
+    at: usize,
+    top: usize,
+    w: u64,
+    bound: u64,
+) -> Front
     requires { ⌜ Shaped (now start) (now writer) ⌝ }
-    requires { ⌜ Ready (length (now start)) s ⌝ }
-    ensures { λ r. ⌜ Scanned (now (start .entry)) (now (writer .entry)) w bound s r ⌝ }
+    requires { ⌜ Ready (length (now start)) (stateOf (now placed) (now order) at top) ⌝ }
+    ensures end { λ r. ⌜ Scanned (now (start .entry)) (now (writer .entry)) w bound (stateOf (now (placed .entry)) (now (order .entry)) at top) (triedOf (now (placed .exit)) (now (order .exit)) r) ⌝ }
+    ensures marks { λ _. ⌜ Shrinks (length (now (start .entry))) (now (placed .entry)) (now (placed .exit)) ⌝ }
 {
-    let mut t = s;
+    let mut a = at;
+    let mut k = top;
     let mut asked: u64 = 0;
-    while t.top > 0 {
-        let i = t.top - 1;
+    while k > 0 {
+        let i = k - 1;
         if start[i] <= bound {
-            return Tried {
-                state: t,
+            return Front {
+                at: a,
+                top: k,
                 asked,
                 failed: false,
             };
         }
-        t.top = i;
-        if t.placed[i] == 0 {
+        k = i;
+        if placed[i] == 0 {
             let v = writer[i];
-            let here = i as u64;
-            if clash(here, v, w, asked) {
-                return Tried {
-                    state: t,
+            if clash(i as u64, v, w, asked) {
+                return Front {
+                    at: a,
+                    top: k,
                     asked,
                     failed: true,
                 };
             }
             asked = ask(v, w, asked);
-            t.placed[i] = 1;
-            let at = t.at - 1;
-            t.order[at] = here;
-            t.at = at;
+            placed[i] = 1;
+            a -= 1;
+            order[a] = i as u64;
         }
     }
-    Tried {
-        state: t,
+    Front {
+        at: a,
+        top: k,
         asked,
         failed: false,
     }
 }
 
-// Places what is left of the reads of w, by the chain, and then w.
-pub fn own(writer: &[u64], last: &[u64], prev: &[u64], s: State, w: usize) -> State
+// Places what is left of the reads of w, by the chain, and then w; where the order begins then.
+pub fn own(
+    writer: &[u64],
+    last: &[u64],
+    prev: &[u64],
+    placed: &mut [u8],
+    order: &mut [u64],
+    at: usize,
+    w: usize,
+) -> usize
     requires { ⌜ Linked (now writer) (now last) (now prev) ⌝ }
-    requires { ⌜ Ready (length (now writer)) s ⌝ }
-    requires { ⌜ Whose (now writer) s w ⌝ }
-    ensures { λ r. ⌜ Owned (now (writer .entry)) w s r ⌝ }
+    requires { ⌜ Ready (length (now writer)) (stateOf (now placed) (now order) at (length (now writer))) ⌝ }
+    requires { ⌜ Whose (now writer) (stateOf (now placed) (now order) at (length (now writer))) w ⌝ }
+    ensures { λ r. ⌜ ((top : ℕ) → Owned (now (writer .entry)) w (stateOf (now (placed .entry)) (now (order .entry)) at top) (stateOf (now (placed .exit)) (now (order .exit)) r top)) ⌝ }
 {
-    let mut t = s;
+    let mut a = at;
     let mut k = last[w] as usize;
     while k > 0 {
         let i = k - 1;
         k = prev[i] as usize;
-        if t.placed[i] == 0 {
-            t.placed[i] = 1;
-            let at = t.at - 1;
-            t.order[at] = i as u64;
-            t.at = at;
+        if placed[i] == 0 {
+            placed[i] = 1;
+            a -= 1;
+            order[a] = i as u64;
         }
     }
-    t.placed[w] = 1;
-    let at = t.at - 1;
-    t.order[at] = w as u64;
-    t.at = at;
-    t
+    placed[w] = 1;
+    a -= 1;
+    order[a] = w as u64;
+    a
 }
 
 // One step: what starts after w ends, w's other reads, and w.
@@ -143,25 +169,28 @@ pub fn step(
     writer: &[u64],
     last: &[u64],
     prev: &[u64],
-    s: State,
+    placed: &mut [u8],
+    order: &mut [u64],
+    at: usize,
+    top: usize,
     w: usize,
-) -> Tried
+) -> Front
     requires { ⌜ Sound (cols (now start) (now finish) (now writer) (now last) (now prev)) ⌝ }
-    requires { ⌜ Holds (cols (now start) (now finish) (now writer) (now last) (now prev)) s ⌝ }
-    requires { ⌜ Whose (now writer) s w ⌝ }
-    ensures { λ r. ⌜ Stepped (cols (now (start .entry)) (now (finish .entry)) (now (writer .entry)) (now (last .entry)) (now (prev .entry))) w s r ⌝ }
+    requires { ⌜ Holds (cols (now start) (now finish) (now writer) (now last) (now prev)) (stateOf (now placed) (now order) at top) ⌝ }
+    requires { ⌜ Whose (now writer) (stateOf (now placed) (now order) at top) w ⌝ }
+    ensures end { λ r. ⌜ Stepped (cols (now (start .entry)) (now (finish .entry)) (now (writer .entry)) (now (last .entry)) (now (prev .entry))) w (stateOf (now (placed .entry)) (now (order .entry)) at top) (triedOf (now (placed .exit)) (now (order .exit)) r) ⌝ }
+    ensures marks { λ _. ⌜ Shrinks (length (now (start .entry))) (now (placed .entry)) (now (placed .exit)) ⌝ }
 {
     let bound = finish[w];
-    let seen = scan(start, writer, s, w as u64, bound);
+    let seen = scan(start, writer, placed, order, at, top, w as u64, bound);
     if seen.failed {
         return seen;
     }
-    let state = seen.state;
-    let t = own(writer, last, prev, state, w);
-    let asked = seen.asked;
-    Tried {
-        state: t,
-        asked,
+    let a = own(writer, last, prev, placed, order, seen.at, w);
+    Front {
+        at: a,
+        top: seen.top,
+        asked: seen.asked,
         failed: false,
     }
 }

@@ -51,24 +51,24 @@ pub whole-order : (s : State) → length (s .order) ≡ 1024 → take (1024 - s 
 whole-order s e = take-all (1024 - s .at) (laid s) (rw (length-drop) (omega arith))
 
 module _ (C : Cols) (p : Sound C) (h : size C ≤ 1024) (late : List ℕ) (g : Zoned C late) (L : List ℕ) (q : L ≡ byLow (C .finish) late (C .writer)) where
-  pub search-stale : (s : State) → pass nowhere (zonesBy (C .finish) late L) ≡ false → (allowance : ℕ) →
-      Searched C allowance (λ H. untried (zones H)) (record { order = s .order; from = 0; to = 0; trials = 0; kind = 0 })
+  pub search-stale : (list : List ℕ) → pass nowhere (zonesBy (C .finish) late L) ≡ false → (allowance : ℕ) →
+      Searched C allowance (λ H. untried (zones H)) (record { order = list; from = 0; to = 0; trials = 0; kind = 0 })
   unfolding zones
-  search-stale s e allowance =
+  search-stale list e allowance =
       is-stale refl (omega arith) (λ H o. let d : isOne H ≡ false = sym (decided o late g) ∙ (rw q at e) in rw d refl)
 
   -- what `lay` requires
-  pub lay-asks : (s : State) → s ≡ begun (size C) → Ready (length (C .writer)) s × (Whole (C .writer) L (length L) s × Once L)
+  pub lay-asks : (s : State) → s ≡ begun (length (C .writer)) → Ready (length (C .writer)) s × (Whole (C .writer) L (length L) s × Once L)
   lay-asks s e =
       rw e (
-        rw (p .shape .long) (begun-ready (size C) h),
+        begun-ready (length (C .writer)) (omega (arith, p .shape .long)),
         (
-          begun-whole (C .writer) (size C) (omega (arith, p .shape .long)) L (λ w m. by-low-write (C .finish) late (C .writer) (rw q at m)),
+          begun-whole (C .writer) (length (C .writer)) (omega (arith, p .shape .long)) L (λ w m. by-low-write (C .finish) late (C .writer) (rw q at m)),
           rw q (pairs-once (by-low-apart (C .finish) late (C .writer))),
         ),
       )
 
-  pub search-fresh : (s t : State) → s ≡ begun (size C) → pass nowhere (zonesBy (C .finish) late L) ≡ true → Lays (C .writer) L s t → (allowance : ℕ) →
+  pub search-fresh : (s t : State) → s ≡ begun (length (C .writer)) → pass nowhere (zonesBy (C .finish) late L) ≡ true → Lays (C .writer) L s t → (allowance : ℕ) →
       Searched C allowance (λ H. untried (zones H)) (record { order = t .order; from = t .at; to = 1024; trials = 0; kind = 1 })
   unfolding zones inOrder
   search-fresh s t b e k allowance =
@@ -83,4 +83,4 @@ module _ (C : Cols) (p : Sound C) (h : size C ≤ 1024) (late : List ℕ) (g : Z
       ∙ ap (ops H) (sym (whole-order t (k .ready .cells) ∙ all-laid)))))
     where
       all-laid : laid t ≡ flatMap (clusterAt (C .writer)) L
-      all-laid = k .order ∙ rw (b, begun-laid (size C)) (append-nil _)
+      all-laid = k .order ∙ rw (b, begun-laid (length (C .writer))) (append-nil _)

@@ -2,7 +2,6 @@
 use history::Row;
 use methods::Zone;
 use placing::Search;
-use placing::State;
 ghost use mathlib.Core.Path.{_≡_};
 ghost use Prim.Native.Nat.{ℕ, _≤_, _<_, max};
 ghost use lib.ListN.{length, getD, take};
@@ -11,7 +10,7 @@ ghost use Rattle.methods.specs.Zones.{zones};
 ghost use Rattle.methods.specs.Mark.{untried};
 ghost use Rattle.positions.specs.Places.{Once};
 ghost use Rattle.positions.specs.Columns.{cols, Linked, Sound};
-ghost use Rattle.placing.specs.States.{Ready};
+ghost use Rattle.placing.specs.States.{stateOf, Ready};
 ghost use Rattle.placing.specs.Searched.{Searched};
 ghost use Rattle.zones.specs.Zones.{lastBy, Ends, Lates, zoneBy, Zoned, Lows, writesAt, byLow, Inside};
 ghost use Rattle.zones.specs.Lay.{Whole, Lays};
@@ -158,23 +157,31 @@ pub fn by_low(finish: &[u64], late: &[u64], writer: &[u64], list: &mut [u64]) ->
     m
 }
 
-// The clusters of the listed writes, in their sequence, in front of what is laid.
-fn lay(writer: &[u64], last: &[u64], prev: &[u64], list: &[u64], s: State) -> State
+// The clusters of the listed writes, in their sequence, in front of what is laid; where the order begins then.
+fn lay(
+    writer: &[u64],
+    last: &[u64],
+    prev: &[u64],
+    list: &[u64],
+    placed: &mut [u8],
+    order: &mut [u64],
+    at: usize,
+) -> usize
     requires { ⌜ Linked (now writer) (now last) (now prev) ⌝ }
-    requires { ⌜ Ready (length (now writer)) s ⌝ }
-    requires { ⌜ Whole (now writer) (now list) (length (now list)) s ⌝ }
+    requires { ⌜ Ready (length (now writer)) (stateOf (now placed) (now order) at (length (now writer))) ⌝ }
+    requires { ⌜ Whole (now writer) (now list) (length (now list)) (stateOf (now placed) (now order) at (length (now writer))) ⌝ }
     requires { ⌜ Once (now list) ⌝ }
-    ensures { λ r. ⌜ Lays (now (writer .entry)) (now (list .entry)) s r ⌝ }
+    ensures { λ r. ⌜ Lays (now (writer .entry)) (now (list .entry)) (stateOf (now (placed .entry)) (now (order .entry)) at (length (now (writer .entry)))) (stateOf (now (placed .exit)) (now (order .exit)) r (length (now (writer .entry)))) ⌝ }
 {
-    let mut t = s;
+    let mut a = at;
     let mut i = list.len();
     while i > 0 {
-        let at = i - 1;
-        let w = list[at] as usize;
-        i = at;
-        t = placing::own(writer, last, prev, t, w);
+        let j = i - 1;
+        let w = list[j] as usize;
+        i = j;
+        a = placing::own(writer, last, prev, placed, order, a, w);
     }
-    t
+    a
 }
 
 // The zone method over the writes by low end.
@@ -193,20 +200,26 @@ fn decide(
     requires { ⌜ now list ≡ byLow (now finish) (now late) (now writer) ⌝ }
     ensures { λ r. ⌜ ((allowance : ℕ) → Searched (cols (now (start .entry)) (now (finish .entry)) (now (writer .entry)) (now (last .entry)) (now (prev .entry))) allowance (λ H. untried (zones H)) r) ⌝ }
 {
-    let n = start.len();
-    let s = placing::begin(n);
+    let mut order = [0u64; Row::LARGEST_COUNT];
     if one(finish, late, list) {
-        let t = lay(writer, last, prev, list, s);
-        let order = t.order;
+        let mut placed = [0u8; Row::LARGEST_COUNT];
+        let from = lay(
+            writer,
+            last,
+            prev,
+            list,
+            &mut placed,
+            &mut order,
+            Row::LARGEST_COUNT,
+        );
         return Search {
             order,
-            from: t.at,
+            from,
             to: Row::LARGEST_COUNT,
             trials: 0,
             kind: Search::FRESH,
         };
     }
-    let order = s.order;
     Search {
         order,
         from: 0,

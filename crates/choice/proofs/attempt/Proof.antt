@@ -1,35 +1,65 @@
 use mathlib.Core.Path.{sym}
 use lib.Seq.{length-take-le}
-use Rattle.choice.proofs.Offers.{offer-turns, try-one}
+use Rattle.choice.proofs.Trying.{writer-fits, offered-holds, offered-turns, offered-tried, offered-within}
 use borrow.Author.Needs.{needs}
 use Rattle.choice.proofs.attempt.Statement.{statement}
 use Rattle.choice.proofs.attempt.Tie as tie
 
-slice-aggregate-lay-out : tie.Need-slice-aggregate-lay-out
-slice-aggregate-lay-out c = search needs
+-- src/lib.rt:186:5
+paint-requires : tie.Need-paint-requires
+paint-requires c κs = let q = c .before .before .before .before .before .before .before .before .before .before .before .pre in (q .0 .links, (q .1 .chunk .writes, writer-fits _ (q .0) _ _ _ _ _ (q .1 .chunk)))
 
+-- src/lib.rt:187:9
 lay-out-requires : tie.Need-lay-out-requires
 lay-out-requires c κs = search needs
 
-array-share-prefix-turn : tie.Need-array-share-prefix-turn
-array-share-prefix-turn c = search needs
+-- src/lib.rt:194:9
+slice-reshare-prefix-viable : tie.Need-slice-reshare-prefix-viable
+slice-reshare-prefix-viable c = search needs
 
+-- src/lib.rt:194:9
 slice-aggregate-viable : tie.Need-slice-aggregate-viable
-slice-aggregate-viable c = sym (length-take-le _ _ (c .before .before .lay-out .ensures .0))
+slice-aggregate-viable c = sym (length-take-le _ _ (c .before .before .before .lay-out .ensures .0))
 
+-- src/lib.rt:188:5
 viable-requires : tie.Need-viable-requires
-viable-requires c κs = let q = c .before .before .before .before .before .before .before .before .before .before .before .pre in (q .0, (q .1 .0, rw (c .before .before .lay-out .ensures .1) (offer-turns (q .1 .1) (c .before .before .before .before .before .before .before .before .before .before .before .args .flip) (c .before .before .before .before .before .before .before .before .before .before .before .args .swap))))
+viable-requires c κs =
+    let q = c .before .before .before .before .before .before .before .before .before .before .before .before .before .before .before .before .before .before .before .before .before .pre in
+    let a = c .before .before .before .before .before .before .before .before .before .before .before .before .before .before .before .before .before .before .before .before .before .args in
+    let f = c .before .before .before .before .before .before .before .before .before .paint in
+    (q .0, (offered-holds _ (q .0) _ _ _ _ _ _ (q .1) (f .last .1 .1 .1 .1 .1 .1 .0) (f .ensures) (f .kept .1 .1 .1 .1 .1 .1 .0), rw (c .before .before .before .before .before .lay-out .ensures .1) (offered-turns _ (q .0) _ _ _ _ _ _ (q .1) (f .last .1 .1 .1 .1 .1 .1 .0) (f .ensures) (f .kept .1 .1 .1 .1 .1 .1 .0) (a .flip) (a .swap))))
 
+-- src/lib.rt:166:1
+same-length : tie.Need-same-length
+same-length c = search needs
+
+-- src/lib.rt:166:1
+same-length-2 : tie.Need-same-length-2
+same-length-2 c = search needs
+
+-- src/lib.rt:166:1
+same-length-3 : tie.Need-same-length-3
+same-length-3 c = search needs
+
+-- src/lib.rt:166:1
 returns : tie.Need-returns
-returns c = try-one _ _ _ _ (rw (c .before .before .before .lay-out .ensures .1) at (c .viable .ensures))
+returns c =
+    let q = c .before .before .before .before .before .before .before .before .before .before .before .before .before .before .before .before .before .before .before .before .before .before .before .before .before .before .pre in
+    let a = c .before .before .before .before .before .before .before .before .before .before .before .before .before .before .before .before .before .before .before .before .before .before .before .before .before .before .args in
+    let f = c .before .before .before .before .before .before .before .before .before .before .before .before .before .before .paint in
+    let v = c .before .before .before .before .viable in
+    (offered-tried _ (q .0) _ _ _ _ _ _ (q .1) (f .last .1 .1 .1 .1 .1 .1 .0) (f .ensures) (f .kept .1 .1 .1 .1 .1 .1 .0) (a .flip) (a .swap) _ _ (rw (c .before .before .before .before .before .before .before .before .before .before .lay-out .ensures .1) at (v .ensures .0)), offered-within _ (q .0) _ _ _ _ _ _ (q .1) (f .last .1 .1 .1 .1 .1 .1 .0) (f .ensures) (f .kept .1 .1 .1 .1 .1 .1 .0) (v .last .1 .1 .1 .1 .1 .1 .0) (v .ensures .1))
 
 pub attempt-spec : {M : Type 1} → statement M
 attempt-spec =
     tie.close
     (tie.spec
-    slice-aggregate-lay-out
+    paint-requires
     lay-out-requires
-    array-share-prefix-turn
+    slice-reshare-prefix-viable
     slice-aggregate-viable
     viable-requires
+    same-length
+    same-length-2
+    same-length-3
     returns)

@@ -1,26 +1,57 @@
-use mathlib.Core.Path.{refl}
 use native.Mathlib.Omega.{arith}
-use borrow.Author.Tests.{not-true, not-false}
-use Rattle.choice.proofs.Offers.{chosen-first, chosen-second, chosen-none}
+use mathlib.Core.List.{_++_}
+use Rattle.freeing.proofs.Freed.{within-shut}
+use Rattle.choice.proofs.Trying.{run-inside, inner-inside, last-small, writer-fits, chunk-offered}
 use borrow.Author.Needs.{needs}
 use Rattle.choice.proofs.choose.Statement.{statement}
 use Rattle.choice.proofs.choose.Tie as tie
 
+-- src/lib.rt:335:9
+above-requires : tie.Need-above-requires
+above-requires c κs =
+    let q = c .before .before .before .before .before .before .before .before .before .before .pre in
+    (run-inside _ (q .0) _ _ _ _ _ (q .1 .0), (inner-inside _ (q .0) _ _ _ _ _ (q .1 .0), last-small _ (q .0) _ _ _ _ _ (q .1 .0)))
+
+-- src/lib.rt:336:9
+first-requires : tie.Need-first-requires
+first-requires c κs =
+    let q = c .before .before .before .before .before .before .before .before .before .before .before .before .before .before .pre in
+    (q .0, chunk-offered _ (q .0) _ _ _ _ _ (q .1 .0) (q .1 .1) _ (c .before .before .before .above .ensures))
+
+-- src/lib.rt:349:5
+paint-requires : tie.Need-paint-requires
+paint-requires c κs =
+    let q = c .before .before .before .before .before .before .before .before .before .before .before .before .before .before .before .before .before .before .before .before .before .before .pre in
+    (q .0 .links, (q .1 .0 .writes, omega (arith, writer-fits _ (q .0) _ _ _ _ _ (q .1 .0), c .before .before .before .before .before .before .before .first .kept .1 .1 .1 .1 .1 .1 .1 .1 .0)))
+
+-- src/lib.rt:317:1
+same-length : tie.Need-same-length
+same-length c = search needs
+
+-- src/lib.rt:317:1
+same-length-2 : tie.Need-same-length-2
+same-length-2 c = search needs
+
+-- src/lib.rt:317:1
+same-length-3 : tie.Need-same-length-3
+same-length-3 c = search needs
+
+-- src/lib.rt:317:1
 returns : tie.Need-returns
-returns c = chosen-none _ _ (c .before .before .before .before .before .before .before .before .args .forwards .now) (c .before .before .before .before .before .before .before .before .args .inner .now) (omega arith) _ refl
-
-attempts-requires : tie.Need-attempts-requires
-attempts-requires c κs = search needs
-
-returns-2 : tie.Need-returns-2
-returns-2 c = chosen-first _ _ (c .before .before .before .before .before .before .before .before .before .before .before .args .forwards .now) (c .before .before .before .before .before .before .before .before .before .before .before .args .inner .now) (omega arith) _ (c .before .before .attempts .ensures) (not-true _ (c .if2 .taken))
-
-attempts-requires-2 : tie.Need-attempts-requires-2
-attempts-requires-2 c κs = search needs
-
-returns-3 : tie.Need-returns-3
-returns-3 c = chosen-second _ _ (c .before .before .before .before .before .before .before .before .before .before .before .before .args .forwards .now) (c .before .before .before .before .before .before .before .before .before .before .before .before .args .inner .now) (omega arith) _ _ (c .before .before .before .attempts .ensures) (not-false _ (c .before .if2 .left)) (c .attempts2 .ensures)
+returns c =
+    let a = c .before .before .before .before .before .before .before .before .before .before .before .before .before .before .before .before .before .before .before .before .before .before .before .before .before .args in
+    let o = c .before .before .before .before .before .before .before .before .before .before .first in
+    let f = c .before .before .paint in
+    (o .ensures .0, within-shut (a .writer .now) (a .forwards .now ++ a .inner .now) (o .last .1 .1 .1 .1 .1 .1 .1 .1 .0) (f .last .1 .1 .1 .1 .1 .1 .0) (o .ensures .1) (f .ensures))
 
 pub choose-spec : {M : Type 1} → statement M
 choose-spec =
-    tie.close (tie.spec returns attempts-requires returns-2 attempts-requires-2 returns-3)
+    tie.close
+    (tie.spec
+    above-requires
+    first-requires
+    paint-requires
+    same-length
+    same-length-2
+    same-length-3
+    returns)

@@ -1,43 +1,59 @@
--- The loop skips what does not dangle: the dangling ones from j on are those from i on (`Skipping`).
 use native.Mathlib.Omega.{arith}
-use Prim.Native.Nat.{_-_}
+use Prim.Native.Nat.{ℕ, _-_}
 use mathlib.Core.Path.{sym, _∙_}
+use mathlib.Core.List.{List}
+use borrow.Author.Tests.{eq-eqb, ne-eqb}
+use Rattle.lists.proofs.Images.{getD-in}
+use Rattle.chunking.specs.Inner.{Hangs}
 use Rattle.chunking.proofs.Hanging.{Skipping, skip-none, skip-end, skip-hit, skip-on}
 use Rattle.chunking.proofs.skip.Statement.{statement}
 use Rattle.chunking.proofs.skip.Tie as tie
 
 abbrev Inv-loop : tie.InvT-loop
-Inv-loop finish late forwards backwards j n i₀ i = Skipping finish late forwards backwards j i
+Inv-loop backwards marks j n i₀ i = (finish late forwards : List ℕ) → Hangs finish late forwards backwards marks → Skipping finish late forwards backwards j i
 
 abbrev μ-loop : tie.MeasureT-loop
-μ-loop finish late forwards backwards j n i₀ i = n - i
+μ-loop backwards marks j n i₀ i = n - i
 
+-- src/lib.rt:219:5
 loop-holds : tie.Need-loop-holds Inv-loop μ-loop
-loop-holds c = skip-none _ _ _ _ _ (c .before .before .before .before .pre .1 .1 .1)
+loop-holds c = λ finish late forwards h. skip-none finish late forwards _ _ (c .pre .1)
 
+-- src/lib.rt:220:17
 mul-w : tie.Need-mul-w Inv-loop μ-loop
 mul-w c = omega arith
 
+-- src/lib.rt:220:17
 shared-slice-read-w : tie.Need-shared-slice-read-w Inv-loop μ-loop
 shared-slice-read-w c = omega arith
 
-dangles-requires : tie.Need-dangles-requires Inv-loop μ-loop
-dangles-requires c κs = (c .before .before .before .before .before .before .before .pre .1 .0 (c .before .before .loop .i) (omega arith), (c .before .before .before .before .before .before .before .pre .1 .1 .0, c .before .before .before .before .before .before .before .pre .0))
+-- src/lib.rt:221:12
+shared-slice-read-if1 : tie.Need-shared-slice-read-if1 Inv-loop μ-loop
+shared-slice-read-if1 c = c .before .before .before .before .pre .0 (c .before .before .before .loop .i) (omega arith)
 
+-- src/lib.rt:222:13
 returns : tie.Need-returns Inv-loop μ-loop
-returns c = skip-hit _ _ _ _ _ _ (c .before .before .before .before .loop .inv) (sym (c .before .dangles .ensures) ∙ c .if1 .taken)
+returns c =
+    let i = c .before .before .before .before .loop .i in
+    λ finish late forwards h. skip-hit finish late forwards _ _ _ (c .before .before .before .before .loop .inv finish late forwards h) (sym (h _ (getD-in _ 0 i (omega arith))) ∙ eq-eqb _ _ (c .if1 .taken))
 
+-- src/lib.rt:224:9
 add-i : tie.Need-add-i Inv-loop μ-loop
 add-i c = omega arith
 
+-- src/lib.rt:219:5
 loop-less : tie.Need-loop-less Inv-loop μ-loop
 loop-less c = omega arith
 
+-- src/lib.rt:219:5
 loop-again : tie.Need-loop-again Inv-loop μ-loop
-loop-again c = skip-on _ _ _ _ _ _ (c .before .before .before .before .loop .inv) (omega arith) (sym (c .before .dangles .ensures) ∙ c .if1 .left)
+loop-again c =
+    let i = c .before .before .before .before .loop .i in
+    λ finish late forwards h. skip-on finish late forwards _ _ _ (c .before .before .before .before .loop .inv finish late forwards h) (omega arith) (sym (h _ (getD-in _ 0 i (omega arith))) ∙ ne-eqb _ _ (c .if1 .left))
 
+-- src/lib.rt:212:1
 returns-2 : tie.Need-returns-2 Inv-loop μ-loop
-returns-2 c = skip-end _ _ _ _ _ _ (c .before .loop .inv) (omega arith)
+returns-2 c = λ finish late forwards h. skip-end finish late forwards _ _ _ (c .before .loop .inv finish late forwards h) (omega arith)
 
 pub skip-spec : {M : Type 1} → statement M
 skip-spec =
@@ -48,7 +64,7 @@ skip-spec =
     loop-holds
     mul-w
     shared-slice-read-w
-    dangles-requires
+    shared-slice-read-if1
     returns
     add-i
     loop-less

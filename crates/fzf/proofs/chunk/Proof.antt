@@ -1,69 +1,72 @@
-use mathlib.Core.Path.{ap, _∙_}
+use mathlib.Core.Path.{ap, sym, _∙_}
 use mathlib.Core.Bool.{false}
 use native.Mathlib.Omega.{arith}
 use lib.ListN.{length}
+use lib.Seq.{length-take-le}
 use Rattle.lists.specs.Lists.{keep}
-use Rattle.positions.proofs.Arrays.{front-long}
 use Rattle.chunking.specs.Chunks.{lies}
-use Rattle.fzf.proofs.Chunks.{late-long, sides-inside, sides-few, run-inside, run-small, inner-small, chunk-holds, chunk-offered, chunk-made}
+use Rattle.chunking.proofs.Sides.{side-rises}
+use Rattle.fzf.proofs.Chunks.{late-long, sides-inside, sides-few, run-inside, chunk-choice, chunk-made}
 use borrow.Author.Needs.{needs}
 use Rattle.fzf.proofs.chunk.Statement.{statement}
 use Rattle.fzf.proofs.chunk.Tie as tie
 
--- src/lib.rt:55:40
+-- src/lib.rt:74:40
 shared-slice-read-low-end : tie.Need-shared-slice-read-low-end
-shared-slice-read-low-end c = omega (arith, c .before .before .before .before .before .before .before .before .before .pre .1 .1 .1 .0 .some)
+shared-slice-read-low-end c = search needs
 
--- src/lib.rt:55:9
+-- src/lib.rt:74:9
 low-end-requires : tie.Need-low-end-requires
-low-end-requires c κs = let q = c .before .before .before .before .before .before .before .before .before .pre in (run-inside _ (q .0) _ (q .1 .1 .0) _ (q .1 .1 .1 .0), late-long _ (q .0) _ (q .1 .1 .0))
+low-end-requires c κs = let q = c .before .before .before .before .before .before .before .before .before .before .before .before .before .pre in (run-inside _ (q .0) _ (q .1 .1 .0) _ (q .1 .1 .1 .0), late-long _ (q .0) _ (q .1 .1 .0))
 
--- src/lib.rt:57:67
-slice-aggregate-inner : tie.Need-slice-aggregate-inner
-slice-aggregate-inner c = search needs
+-- src/lib.rt:75:9
+enclose-requires : tie.Need-enclose-requires
+enclose-requires c κs =
+    let q = c .before .before .before .before .before .before .before .before .before .before .before .before .before .before .before .pre in
+    let a = c .before .before .before .before .before .before .before .before .before .before .before .before .before .before .before .args in
+    let y = q .1 .1 .1 .1 .0 in
+    (rw y (sides-inside _ (q .0) _ (q .1 .1 .0) false), (late-long _ (q .0) _ (q .1 .1 .0), (omega (arith, ap length y, sides-few _ (q .0) _ (q .1 .1 .0), q .1 .0, q .1 .1 .1 .1 .1 .1 .0 .inner), (rw y (side-rises (a .finish .now) (a .late .now) (a .writer .now) false), rw (c .before .low-end .ensures) (q .1 .1 .1 .1 .1 .0)))))
 
--- src/lib.rt:57:9
-inner-requires : tie.Need-inner-requires
-inner-requires c κs = let q = c .before .before .before .before .before .before .before .before .before .before .before .pre in (rw (q .1 .1 .1 .1) (sides-inside _ (q .0) _ (q .1 .1 .0) false), (late-long _ (q .0) _ (q .1 .1 .0), rw (q .1 .1 .1 .1) (omega (arith, sides-few _ (q .0) _ (q .1 .1 .0), q .1 .0))))
+-- src/lib.rt:84:9
+slice-reshare-prefix-choose : tie.Need-slice-reshare-prefix-choose
+slice-reshare-prefix-choose c = let q = c .before .before .before .before .before .before .before .before .before .before .before .before .before .before .before .before .before .before .pre in omega (arith, c .before .before .enclose .ensures .few, ap length (q .1 .1 .1 .1 .0), sides-few _ (q .0) _ (q .1 .1 .0), q .1 .0, c .before .before .enclose .kept .1 .1 .1 .1 .1 .1 .0, q .1 .1 .1 .1 .1 .1 .0 .inner)
 
--- src/lib.rt:58:41
-array-share-prefix-list : tie.Need-array-share-prefix-list
-array-share-prefix-list c = let q = c .before .before .before .before .before .before .before .before .before .before .before .before .before .pre in rw (c .before .inner .kept .1 .1 .1 .1 .1 .0) (omega (arith, c .before .inner .ensures .0, sides-few _ (q .0) _ (q .1 .1 .0), q .1 .0, ap length (q .1 .1 .1 .1)))
-
--- src/lib.rt:58:41
-slice-aggregate-free : tie.Need-slice-aggregate-free
-slice-aggregate-free c = let q = c .before .before .before .before .before .before .before .before .before .before .before .before .before .before .pre in front-long _ _ (c .before .before .inner .kept .1 .1 .1 .1 .1 .0) (omega (arith, c .before .before .inner .ensures .0, sides-few _ (q .0) _ (q .1 .1 .0), q .1 .0, ap length (q .1 .1 .1 .1)))
-
--- src/lib.rt:58:9
-free-requires : tie.Need-free-requires
-free-requires c κs =
-    let q = c .before .before .before .before .before .before .before .before .before .before .before .before .before .before .pre in
-    let i = c .before .before .inner .ensures .1 ∙ ap (keep (lies _ _ _ _)) (q .1 .1 .1 .1) in
-    (rw (q .0 .shape .long) (q .1 .0), ((λ j l. omega (arith, q .0 .shape .writers j (omega (arith, q .0 .shape .long)), q .1 .0)), (run-small _ (q .0) (q .1 .0) _ (q .1 .1 .0) _ (q .1 .1 .1 .0) _ (c .before .before .before .before .before .before .before .before .before .before .before .before .before .before .args .top) (c .before .before .before .before .low-end .ensures), rw i (inner-small _ (q .0) (q .1 .0) _ (q .1 .1 .0) _ (q .1 .1 .1 .0) _ (c .before .before .before .before .before .before .before .before .before .before .before .before .before .before .args .top) (c .before .before .before .before .low-end .ensures)))))
-
--- src/lib.rt:59:60
-array-share-prefix-list-2 : tie.Need-array-share-prefix-list-2
-array-share-prefix-list-2 c = let q = c .before .before .before .before .before .before .before .before .before .before .before .before .before .before .before .pre in rw (c .before .before .before .inner .kept .1 .1 .1 .1 .1 .0) (omega (arith, c .before .before .before .inner .ensures .0, sides-few _ (q .0) _ (q .1 .1 .0), q .1 .0, ap length (q .1 .1 .1 .1)))
-
--- src/lib.rt:59:60
+-- src/lib.rt:84:9
 slice-aggregate-choose : tie.Need-slice-aggregate-choose
-slice-aggregate-choose c = let q = c .before .before .before .before .before .before .before .before .before .before .before .before .before .before .before .before .pre in front-long _ _ (c .before .before .before .before .inner .kept .1 .1 .1 .1 .1 .0) (omega (arith, c .before .before .before .before .inner .ensures .0, sides-few _ (q .0) _ (q .1 .1 .0), q .1 .0, ap length (q .1 .1 .1 .1)))
+slice-aggregate-choose c = let q = c .before .before .before .before .before .before .before .before .before .before .before .before .before .before .before .before .before .before .before .pre in sym (length-take-le _ _ (omega (arith, c .before .before .before .enclose .ensures .few, ap length (q .1 .1 .1 .1 .0), sides-few _ (q .0) _ (q .1 .1 .0), q .1 .0, c .before .before .before .enclose .kept .1 .1 .1 .1 .1 .1 .0, q .1 .1 .1 .1 .1 .1 .0 .inner)))
 
--- src/lib.rt:59:5
+-- src/lib.rt:77:9
 choose-requires : tie.Need-choose-requires
 choose-requires c κs =
-    let q = c .before .before .before .before .before .before .before .before .before .before .before .before .before .before .before .before .pre in
-    let i = c .before .before .before .before .inner .ensures .1 ∙ ap (keep (lies _ _ _ _)) (q .1 .1 .1 .1) in
-    let f = rw i at (c .before .free .ensures) in
-    (q .0, (chunk-holds _ (q .0) (q .1 .0) _ (q .1 .1 .0) _ (q .1 .1 .1 .0) _ (c .before .before .before .before .before .before .before .before .before .before .before .before .before .before .before .before .args .top) (c .before .before .before .before .before .before .low-end .ensures) _ f, rw i (chunk-offered _ (q .0) (q .1 .0) _ (q .1 .1 .0) _ (q .1 .1 .1 .0) _ (c .before .before .before .before .before .before .before .before .before .before .before .before .before .before .before .before .args .top) (c .before .before .before .before .before .before .low-end .ensures) _ f)))
+    let q = c .before .before .before .before .before .before .before .before .before .before .before .before .before .before .before .before .before .before .before .before .before .before .pre in
+    let a = c .before .before .before .before .before .before .before .before .before .before .before .before .before .before .before .before .before .before .before .before .before .before .args in
+    let i = c .before .before .before .before .before .before .enclose .ensures .written ∙ ap (keep (lies _ _ _ _)) (q .1 .1 .1 .1 .0) in
+    (q .0, (rw i (chunk-choice _ (q .0) (q .1 .0) _ (q .1 .1 .0) _ (q .1 .1 .1 .0) _ (a .top) (c .before .before .before .before .before .before .before .before .low-end .ensures) _ _ _ _ (q .1 .1 .1 .1 .1 .1 .0)), q .1 .1 .1 .1 .1 .1 .1))
 
--- src/lib.rt:37:1
+-- src/lib.rt:46:1
+same-length : tie.Need-same-length
+same-length c = search needs
+
+-- src/lib.rt:46:1
+same-length-2 : tie.Need-same-length-2
+same-length-2 c = search needs
+
+-- src/lib.rt:46:1
+same-length-3 : tie.Need-same-length-3
+same-length-3 c = search needs
+
+-- src/lib.rt:46:1
+same-length-4 : tie.Need-same-length-4
+same-length-4 c = search needs
+
+-- src/lib.rt:46:1
 returns : tie.Need-returns
 returns c =
-    let q = c .before .before .before .before .before .before .before .before .before .before .before .before .before .before .before .before .before .pre in
-    let i = c .before .before .before .before .before .inner .ensures .1 ∙ ap (keep (lies _ _ _ _)) (q .1 .1 .1 .1) in
-    let f = rw i at (c .before .before .free .ensures) in
-    chunk-made _ (q .0) (q .1 .0) _ (q .1 .1 .0) _ (q .1 .1 .1 .0) _ (c .before .before .before .before .before .before .before .before .before .before .before .before .before .before .before .before .before .args .top) (c .before .before .before .before .before .before .before .low-end .ensures) _ f _ (rw i at (c .choose .ensures))
+    let q = c .before .before .before .before .before .before .before .before .before .before .before .before .before .before .before .before .before .before .before .before .before .before .before .before .before .before .before .before .before .pre in
+    let a = c .before .before .before .before .before .before .before .before .before .before .before .before .before .before .before .before .before .before .before .before .before .before .before .before .before .before .before .before .before .args in
+    let i = c .before .before .before .before .before .before .before .before .before .before .before .before .before .enclose .ensures .written ∙ ap (keep (lies _ _ _ _)) (q .1 .1 .1 .1 .0) in
+    let o = c .before .before .before .before .before .before .choose in
+    (chunk-made _ (q .0) (q .1 .0) _ (q .1 .1 .0) _ (q .1 .1 .1 .0) _ (a .top) (c .before .before .before .before .before .before .before .before .before .before .before .before .before .before .before .low-end .ensures) _ _ (rw i at (o .ensures .0)), (o .ensures .1, λ limit x y. c .before .before .before .before .before .before .before .before .before .before .before .before .before .enclose .ensures .behind limit (omega (arith, c .before .before .before .before .before .before .before .before .before .before .before .before .before .before .before .low-end .ensures)) y))
 
 pub chunk-spec : {M : Type 1} → statement M
 chunk-spec =
@@ -71,12 +74,12 @@ chunk-spec =
     (tie.spec
     shared-slice-read-low-end
     low-end-requires
-    slice-aggregate-inner
-    inner-requires
-    array-share-prefix-list
-    slice-aggregate-free
-    free-requires
-    array-share-prefix-list-2
+    enclose-requires
+    slice-reshare-prefix-choose
     slice-aggregate-choose
     choose-requires
+    same-length
+    same-length-2
+    same-length-3
+    same-length-4
     returns)

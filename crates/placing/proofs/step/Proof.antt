@@ -1,36 +1,71 @@
--- `placing::step` meets its contract. From what `scan` and `own` ensure, by the laws of `Stepped`.
-use Rattle.placing.proofs.Stepping.{step-fails, after-ready, after-whose, step-goes}
+use Rattle.placing.proofs.Stepping.{step-fails, after-ready, after-whose, step-goes, own-shrinks}
 use borrow.Author.Needs.{needs}
 use Rattle.placing.proofs.step.Statement.{statement}
 use Rattle.placing.proofs.step.Tie as tie
 
+-- src/lib.rt:169:17
 mul-bound : tie.Need-mul-bound
 mul-bound c = search needs
 
+-- src/lib.rt:169:17
 shared-slice-read-bound : tie.Need-shared-slice-read-bound
 shared-slice-read-bound c = search needs
 
+-- src/lib.rt:170:9
 scan-requires : tie.Need-scan-requires
 scan-requires c κs = search needs
 
+-- src/lib.rt:172:9
+same-length : tie.Need-same-length
+same-length c = search needs
+
+-- src/lib.rt:172:9
+same-length-2 : tie.Need-same-length-2
+same-length-2 c = search needs
+
+-- src/lib.rt:172:9
 returns : tie.Need-returns
 returns c =
-    let q = c .before .before .before .before .before .before .before .before .pre in
-    step-fails _ (q .0) _ _ (q .1 .0) (q .1 .1) _ (c .before .scan .ensures) (c .if1 .taken)
+    let q = c .before .before .before .before .before .before .before .before .before .before .before .before .before .before .before .before .pre in
+    let e = c .before .before .before .before .before .scan .ensures in
+    (step-fails _ (q .0) _ _ (q .1 .0) (q .1 .1) _ (e .0) (c .if1 .taken), e .1)
 
+-- src/lib.rt:174:9
 own-requires : tie.Need-own-requires
 own-requires c κs =
-    let q = c .before .before .before .before .before .before .before .before .before .pre in
-    let e = c .before .before .scan .ensures in
-    let f = c .before .if1 .left in
+    let q = c .before .before .before .before .before .before .before .before .before .before .before .before .before .before .before .before .before .before .pre in
+    let e = c .before .before .before .before .before .before .before .scan .ensures .0 in
+    let f = c .before .before .if1 .left in
     (q .0 .links, (after-ready _ (q .0) _ _ (q .1 .0) (q .1 .1) _ e f, after-whose _ (q .0) _ _ (q .1 .0) (q .1 .1) _ e f))
 
+-- src/lib.rt:151:1
+same-length-3 : tie.Need-same-length-3
+same-length-3 c = search needs
+
+-- src/lib.rt:151:1
+same-length-4 : tie.Need-same-length-4
+same-length-4 c = search needs
+
+-- src/lib.rt:151:1
 returns-2 : tie.Need-returns-2
 returns-2 c =
-    let q = c .before .before .before .before .before .before .before .before .before .before .pre in
-    step-goes _ (q .0) _ _ (q .1 .0) (q .1 .1) _ (c .before .before .before .scan .ensures) (c .before .before .if1 .left) _ (c .own .ensures)
+    let q = c .before .before .before .before .before .before .before .before .before .before .before .before .before .before .before .before .before .before .before .before .before .before .before .pre in
+    let e = c .before .before .before .before .before .before .before .before .before .before .before .before .scan .ensures in
+    let f = c .before .before .before .before .before .before .before .if1 .left in
+    let o = c .before .before .before .before .own .ensures in
+    (step-goes _ (q .0) _ _ (q .1 .0) (q .1 .1) _ (e .0) f _ (o _), λ j l h. e .1 j l (own-shrinks _ (q .0) _ _ (q .1 .0) (q .1 .1) (o 0) j l h))
 
 pub step-spec : {M : Type 1} → statement M
 step-spec =
     tie.close
-    (tie.spec mul-bound shared-slice-read-bound scan-requires returns own-requires returns-2)
+    (tie.spec
+    mul-bound
+    shared-slice-read-bound
+    scan-requires
+    same-length
+    same-length-2
+    returns
+    own-requires
+    same-length-3
+    same-length-4
+    returns-2)

@@ -1,0 +1,6 @@
+-- The laws of the freeing.
+pub mod Listing
+pub mod Dyeing
+pub mod Painting
+pub mod Topping
+pub mod Freed

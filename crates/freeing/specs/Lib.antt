@@ -1,0 +1,3 @@
+-- A chunk's clusters set free and shut again.
+pub mod Marks
+pub mod Freed
