@@ -6,6 +6,7 @@ pub mod Counts
 pub mod Maps
 pub mod Pairs
 pub mod Sorts
+pub mod Merges
 pub mod Images
 pub mod Ranges
 pub mod Cover
