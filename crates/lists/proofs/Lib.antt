@@ -13,3 +13,4 @@ pub mod Cover
 pub mod Scans
 pub mod Decide
 pub mod Stores
+pub mod Filled
