@@ -90,7 +90,8 @@ pub fn scattered(count: usize, writes: u64, random: &mut Random) -> Vec<Row> {
     let mut rows: Vec<Row> = ranks.chunks(2).map(|pair| row(true, 0, pair[0].min(pair[1]), pair[0].max(pair[1]))).collect();
     let mut last = 0;
     for at in 0..count {
-        let known: Vec<u64> = rows[..at].iter().filter(|earlier| earlier.write && earlier.start < rows[at].finish).map(|earlier| earlier.value).collect();
+        let known: Vec<u64> =
+            rows[..at].iter().filter(|earlier| earlier.write && earlier.start < rows[at].finish).map(|earlier| earlier.value).collect();
         if known.is_empty() || random.one_in(writes) {
             last += 1;
             rows[at].value = last;

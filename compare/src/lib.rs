@@ -2,6 +2,7 @@
 //! `differ` compares the codes of random and damaged files, `speed` the times.
 
 pub mod codes;
+pub mod damage;
 pub mod file;
 mod fzf;
 pub mod histories;
@@ -10,6 +11,7 @@ pub mod library;
 pub mod order;
 pub mod random;
 pub mod register;
+pub mod shapes;
 mod zones;
 
 use codes::{FRESH, NO_SUCH_QUESTION, SPENT, STALE};

@@ -4,11 +4,17 @@ use crate::file::Row;
 
 /// Whether the order, of row numbers, lists each row once, keeps precedence, and has each read follow its write within k.
 pub fn accepted(rows: &[Row], order: &[u32], k: usize) -> bool {
-    let listed: Vec<&Row> = order.iter().filter_map(|&number| rows.iter().find(|row| row.number == number)).collect();
+    total(rows, order) && {
+        let listed: Vec<&Row> = order.iter().map(|&number| &rows[rows.partition_point(|row| row.number < number)]).collect();
+        in_time(&listed) && near(&listed, k)
+    }
+}
+
+/// Each row's number once; the rows' numbers rise.
+fn total(rows: &[Row], order: &[u32]) -> bool {
     let mut numbers = order.to_vec();
     numbers.sort_unstable();
-    numbers.dedup();
-    listed.len() == rows.len() && numbers.len() == rows.len() && order.len() == rows.len() && in_time(&listed) && near(&listed, k)
+    numbers.iter().copied().eq(rows.iter().map(|row| row.number))
 }
 
 /// No row precedes one listed earlier.
