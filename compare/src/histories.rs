@@ -143,22 +143,28 @@ pub fn late_failures(count: usize, random: &mut Random) -> Vec<Row> {
     rows
 }
 
-/// Chunks of six rows, each with one forward cluster and two backward ones; the order needed puts one before the forward write, one behind.
+/// Chunks, each of one or two forward clusters and two backward ones: the one whose write begins first must go before the forward writes, the
+/// other behind. One in three times the other has the lower low end, so that the second order listed is needed.
 pub fn chunks(count: usize, random: &mut Random) -> Vec<Row> {
     let mut rows = Vec::with_capacity(count);
     let mut at = 100;
-    while rows.len() < count {
+    while rows.len() + 8 <= count {
         let value = rows.len() as u64 + 1;
-        let shift = random.below(3);
+        let two = random.one_in(2);
+        let last = if random.one_in(3) { 13 } else { 28 };
+        let far = if two { 40 } else { 0 };
         rows.push(row(true, value, at, at + 10));
         rows.push(row(false, value, at + 50, at + 60));
         rows.push(row(true, value + 1, at + 1, at + 30));
-        rows.push(row(false, value + 1, at + 15 + shift, at + 40));
-        rows.push(row(true, value + 2, at + 14 + 4 * shift, at + 45));
-        rows.push(row(false, value + 2, at + 28, at + 49));
+        rows.push(row(false, value + 1, at + 15, at + 40));
+        rows.push(row(true, value + 2, at + 12, at + 45 + far));
+        rows.push(row(false, value + 2, at + last, at + 49 + far));
+        if two {
+            rows.push(row(true, value + 3, at + 20, at + 48));
+            rows.push(row(false, value + 3, at + 90, at + 95));
+        }
         at += 100;
     }
-    rows.truncate(count - count % 6);
     while rows.len() < count {
         rows.push(row(true, rows.len() as u64 + 1, at, at + 10));
         at += 100;

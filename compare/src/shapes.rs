@@ -61,7 +61,7 @@ fn shape(count: usize, random: &mut Random) -> Vec<Row> {
         0 => histories::scattered(count, 2 + random.below(2), random),
         1 => histories::concurrent(count, random),
         2 if count >= 3 => histories::late_failures(count, random),
-        3 if count >= 6 => histories::chunks(count, random),
+        3 if count >= 8 => histories::chunks(count, random),
         4 if count >= 5 => histories::stale_at(random.one_in(2), count, random),
         _ => {
             let reach = [4, 20, 40, 80, 400, 1 << 20][random.below(6) as usize];
