@@ -1,7 +1,6 @@
 -- The invariants of the loops, with a law for each way through a turn, and that the columns are those of the prepared history.
-pub mod Filled
+pub mod Stamps
 pub mod Gathering
-pub mod Seeking
 pub mod Cutting
 pub mod Chained
 pub mod Listed

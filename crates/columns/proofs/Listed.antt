@@ -3,28 +3,27 @@
 use Prim.Native.Nat.{ℕ, _≤_, _<_}
 use mathlib.Core.Path.{_≡_, refl, sym, ap, _∙_}
 use mathlib.Core.Logic.{_⊎_, inl, inr}
-use mathlib.Core.Bool.{Bool, true, false, cond}
+use mathlib.Core.Bool.{true, false}
 use mathlib.Core.List.{List, [], _∷_, map, List·Memᴰ as In}
 use native.Mathlib.Omega.{arith}
 use lib.ListN.{length, getD, length-map}
-use lib.Dec.{eqb}
-use borrow.Author.Tests.{eqb-true, eq-eqb}
 use Rattle.lists.specs.Sorts.{sort}
-use Rattle.lists.proofs.Tests.{both, test}
+use Rattle.lists.proofs.Tests.{test}
 use Rattle.lists.proofs.Maps.{in-map, map-in}
-use Rattle.lists.proofs.Sorts.{in-sort}
+use Rattle.lists.proofs.Sorts.{in-sort, sort-length}
 use Rattle.lists.proofs.Images.{sort-map, getD-map, getD-in, pairs-at}
 use Rattle.history.specs.declared.Op.{Op}
-use Rattle.history.specs.Table.{opAt, rowsOf, history, isWrite}
-use Rattle.history.proofs.Rows.{in-rows}
+use Rattle.history.specs.Table.{largestCount, opAt, rowsOf, history, isWrite}
+use Rattle.history.proofs.Rows.{in-rows, history-count, rows-few}
 use Rattle.methods.specs.Prepared.{startsFirst, byStart}
 use Rattle.methods.specs.Mark.{rowNumbers}
 use Rattle.preparation.proofs.Timed.{Timed, timed, from-sorted}
 use Rattle.preparation.proofs.Rows.{history-rows}
 use Rattle.positions.proofs.Places.{below}
 use Rattle.columns.specs.Rows.{Listed, Fit}
-use Rattle.columns.specs.Writers.{writes, writesAt, writerOf, rowOp, Tied}
-use Rattle.columns.proofs.Seeking.{seek-in}
+use Rattle.writers.specs.Writers.{writesAt, writerOf}
+use Rattle.writers.proofs.Seeking.{writes-is, is-writes, seek-in}
+use Rattle.columns.specs.Writers.{rowOp, Tied}
 
 -- the rows by rising start
 pub sortedRows : List ℕ → ℕ → List ℕ
@@ -52,18 +51,6 @@ module _ (t : List ℕ) (register : ℕ) where
   unfolding sortedRows
   in-sorted m = in-sort (λ x y. startsFirst (opAt t x) (opAt t y)) (rowsOf t register) m
 
-writes-is : (v : ℕ) (o : Op) → writes v o ≡ true → (isWrite o ≡ true) × (o .value ≡ v)
-unfolding writes
-writes-is v o e = go (isWrite o) refl e
-  where
-    go : (b : Bool) → isWrite o ≡ b → cond b (eqb (o .value) v) false ≡ true → (isWrite o ≡ true) × (o .value ≡ v)
-    go true q k = (q, eqb-true _ _ k)
-    go false q k = absurd (both k refl)
-
-is-writes : (v : ℕ) (o : Op) → isWrite o ≡ true → o .value ≡ v → writes v o ≡ true
-unfolding writes
-is-writes v o e f = rw e (eq-eqb (o .value) v f)
-
 module _ {t : List ℕ} {register : ℕ} {rows : List ℕ} (g : Listed t register rows) where
   rows-are : rows ≡ sortedRows t register
   rows-are = g .listed ∙ sorted-numbers t register
@@ -84,6 +71,12 @@ module _ {t : List ℕ} {register : ℕ} {rows : List ℕ} (g : Listed t registe
         inside = λ x m. omega (arith, in-rows t register (in-sorted t register (rw rows-are at m)) .exists);
         spans = λ x m. g .screened .spans (opAt t x) (in-history m);
       }
+
+  pub listed-few : length rows ≤ largestCount
+  unfolding sortedRows
+  listed-few =
+      omega
+      (arith, ap length rows-are, sort-length (λ x y. startsFirst (opAt t x) (opAt t y)) (rowsOf t register), history-count t register, rows-few t register, g .screened .few)
 
   -- each row has a write of its value among the rows
   has-write : (x : ℕ) → In x rows → (y : ℕ) × In y rows × (writesAt t (opAt t x .value) y ≡ true)

@@ -23,7 +23,7 @@ use Rattle.methods.specs.Mark.{rowNumbers, written}
 use Rattle.sorting.specs.Keys.{rises}
 use Rattle.positions.specs.Places.{pickList, upto}
 use Rattle.positions.specs.Columns.{Cols, size, isOwn, byFinish}
-use Rattle.positions.proofs.Places.{in-upto, upto-length}
+use Rattle.positions.proofs.Places.{in-upto}
 use Rattle.columns.specs.Gathered.{Gathered}
 use Rattle.columns.specs.Rows.{Listed}
 use Rattle.columns.specs.Falls.{noSooner, fallingOf, Turned}
@@ -90,10 +90,6 @@ module _ (t : List ℕ) (register : ℕ) where
 
       long : m ≡ length rows
       long = gathered-count room g ∙ ap length (sym rows-upto) ∙ sym (sort-length le (rowsOf t register)) ∙ ap length (sym (sorted-is t register) ∙ sym (sorted-numbers t register))
-
--- the register has no more rows than the table
-pub rows-few : (t : List ℕ) (register : ℕ) → length (history t register) ≤ rowCount t
-rows-few t register = omega (arith, history-count t register, ap length (rows-upto t register), upto-length (bears t register) (rowCount t))
 
 -- what the call leaves at the front is the rows of the register by rising start
 pub rows-listed : (t : List ℕ) (register m : ℕ) (rows₀ rows : List ℕ) → Screened (length t) (history t register)

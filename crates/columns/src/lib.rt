@@ -11,7 +11,7 @@ ghost use Rattle.methods.specs.Mark.{rowNumbers, written};
 ghost use Rattle.positions.specs.Columns.{cols, isOwn, Linked};
 ghost use Rattle.columns.specs.Gathered.{Gathered};
 ghost use Rattle.columns.specs.Rows.{Listed, Fit};
-ghost use Rattle.columns.specs.Writers.{writes, seek, writesAt, writerOf, Tied};
+ghost use Rattle.columns.specs.Writers.{Tied};
 ghost use Rattle.columns.specs.Finishes.{stampOf, lowered, ending};
 ghost use Rattle.columns.specs.Made.{Room, Made};
 ghost use Rattle.columns.specs.Falls.{fallingOf, Turned};
@@ -80,47 +80,6 @@ fn doubled(table: &[u64], rows: &[u64], which: Stamp, out: &mut [u64])
     }
 }
 
-// Whether an operation is a write of the value.
-fn writes(o: Op, value: u64) -> bool
-    ensures { λ r. ⌜ r ≡ writes value o ⌝ }
-{
-    if o.is_write() {
-        return o.value == value;
-    }
-    false
-}
-
-// The position of the first write of the value among the rows; their number where there is none.
-fn writer(table: &[u64], rows: &[u64], value: u64) -> u64
-    requires { ⌜ Fit (now table) (now rows) ⌝ }
-    ensures { λ r. ⌜ r ≡ seek (writesAt (now (table .entry)) value) (now (rows .entry)) ⌝ }
-{
-    let mut i: usize = 0;
-    while i < rows.len() {
-        let o = Op::at(table, rows[i] as usize);
-        if writes(o, value) {
-            return i as u64;
-        }
-        i += 1;
-    }
-    i as u64
-}
-
-// The position of each row's write, its own for a write.
-fn writers(table: &[u64], rows: &[u64], out: &mut [u64])
-    requires { ⌜ length (now out) ≡ length (now rows) ⌝ }
-    requires { ⌜ Fit (now table) (now rows) ⌝ }
-    ensures { λ _. ⌜ now (out .exit) ≡ map (writerOf (now (table .entry)) (now (rows .entry))) (now (rows .entry)) ⌝ }
-{
-    let mut i: usize = 0;
-    while i < rows.len() {
-        let o = Op::at(table, rows[i] as usize);
-        let w = writer(table, rows, o.value);
-        out[i] = w;
-        i += 1;
-    }
-}
-
 // A write's finish after one of its reads: one below the read's, where that is lower.
 fn lowered(end: u64, finish: u64) -> u64
     requires { ⌜ 0 < end ⌝ }
@@ -147,17 +106,6 @@ fn finishes(table: &[u64], rows: &[u64], writer: &[u64], out: &mut [u64])
             let old = out[w];
             out[w] = lowered(end, old);
         }
-    }
-}
-
-// Zeros.
-fn clear(list: &mut [u64])
-    ensures { λ _. ⌜ now (list .exit) ≡ map (λ _. 0) (now (list .entry)) ⌝ }
-{
-    let mut i: usize = 0;
-    while i < list.len() {
-        list[i] = 0;
-        i += 1;
     }
 }
 
@@ -198,9 +146,9 @@ pub fn fill(
     ensures { λ _. ⌜ Made (now (table .entry)) (now (rows .entry)) (cols (now (start .exit)) (now (finish .exit)) (now (writer .exit)) (now (last .exit)) (now (prev .exit))) ⌝ }
 {
     doubled(table, rows, Stamp::Start, start);
-    writers(table, rows, writer);
+    writers::writers(table, rows, writer);
     finishes(table, rows, writer, finish);
-    clear(last);
+    writers::clear(last);
     link(writer, last, prev);
 }
 

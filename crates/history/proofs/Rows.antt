@@ -1,6 +1,6 @@
 -- The rows of a register and its operations: which they are, that they rise, and that two tables alike have the same.
 -- Assumes nothing.
-use Prim.Native.Nat.{ℕ, _<_, _/_}
+use Prim.Native.Nat.{ℕ, _≤_, _<_, _/_}
 use mathlib.Core.Path.{_≡_, refl, ap, _∙_}
 use mathlib.Core.Bool.{Bool, true, false}
 use mathlib.Core.List.{List, map, List·Memᴰ as In}
@@ -11,7 +11,8 @@ use Rattle.lists.proofs.Tests.{Told, holds, fails, told-true, true-told, told-e
 use Rattle.lists.proofs.Members.{in-keep, keep-in, keep-ext, map-ext}
 use Rattle.lists.specs.Pairs.{Pairs}
 use Rattle.lists.proofs.Pairs.{pairs-keep}
-use Rattle.lists.proofs.Ranges.{below-in, in-below, from-rises}
+use Rattle.lists.proofs.Ranges.{below-in, in-below, from-rises, from-length}
+use Rattle.lists.proofs.Counts.{keep-length}
 use Rattle.history.specs.Table.{cell, rowCount, operation, opAt, RowOf, bears, rowsOf, history, Alike}
 
 pub told-bears : (t : List ℕ) (register i : ℕ) → Told (cell t i 0 ≡ register) (bears t register i)
@@ -35,6 +36,10 @@ rows-rise t register = pairs-keep (bears t register) (from-rises 0 (rowCount t))
 pub history-count : (t : List ℕ) (register : ℕ) → length (history t register) ≡ length (rowsOf t register)
 unfolding history
 history-count t register = length-map (rowsOf t register) (opAt t)
+
+pub rows-few : (t : List ℕ) (register : ℕ) → length (history t register) ≤ rowCount t
+unfolding rowsOf
+rows-few t register = omega (arith, history-count t register, keep-length (bears t register) (upTo (rowCount t)), from-length 0 (rowCount t))
 
 -- Two tables alike have the same operations of the register.
 module _ {t u : List ℕ} {register : ℕ} (a : Alike t u register) where

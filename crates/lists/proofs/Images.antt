@@ -132,6 +132,11 @@ module _ {A : Type 0} where
   getD-in (x ∷ l) d zero h = here refl
   getD-in (x ∷ l) d (suc i) h = there (getD-in l d i (omega arith))
 
+  -- a member stands at a position
+  pub in-at : {l : List A} (d : A) {y : A} → In y l → (i : ℕ) × (i < length l) × (getD l i d ≡ y)
+  in-at d (here e) = (0, omega arith, sym e)
+  in-at d (there m) = let k = in-at d m in (suc (k .0), omega (arith, k .1), k .2)
+
   -- an element stands in R to those behind it, and to one at a later position
   pub pairs-drop : {R : A → A → Type 0} {l : List A} (d : A) → Pairs R l → (i : ℕ) → i < length l → (y : A) → In y (drop (suc i) l) → R (getD l i d) y
   pairs-drop d nil i h y m = absurd (omega arith)

@@ -6,9 +6,11 @@ pub mod Counts
 pub mod Maps
 pub mod Pairs
 pub mod Sorts
+pub mod Merges
 pub mod Images
 pub mod Ranges
 pub mod Cover
 pub mod Scans
 pub mod Decide
 pub mod Stores
+pub mod Filled

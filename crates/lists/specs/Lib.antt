@@ -1,4 +1,5 @@
 -- Lists, with tests that compute.
 pub mod Lists
 pub mod Sorts
+pub mod Merges
 pub mod Pairs

@@ -24,7 +24,8 @@ use Rattle.placing.specs.Searched.{found, Searched, is-stale, is-fresh, is-spen
 use Rattle.columns.specs.Rows.{Listed}
 use Rattle.columns.specs.Made.{Room, Made}
 use Rattle.columns.proofs.Made.{prepared-rows}
-use Rattle.columns.proofs.Sorted.{rows-few, rows-listed}
+use Rattle.history.proofs.Rows.{rows-few}
+use Rattle.columns.proofs.Sorted.{rows-listed}
 use Rattle.fzf.specs.Items.{Known}
 use Rattle.marker.specs.Called.{Asked, Fits, Replied}
 use Rattle.marker.proofs.Answering.{found-long}

@@ -19,7 +19,7 @@ use Rattle.history.specs.Answer.{number, spent, short-list, Test, test, ifSo, r
 use Rattle.history.specs.Screen.{tests, Screened}
 use Rattle.history.proofs.Refusals.{NoFault, met-append}
 use Rattle.history.proofs.Screened.{no-fault-screened}
-use Rattle.columns.proofs.Sorted.{rows-few}
+use Rattle.history.proofs.Rows.{rows-few}
 use Rattle.methods.specs.Prepared.{prepared}
 use Rattle.methods.specs.Zones.{Decision, none, order}
 use Rattle.methods.specs.Mark.{Outcome, noQuestion, method, answered, marked, judged, markTests, markOf, mark, rowNumbers}

@@ -6,7 +6,8 @@ use native.Mathlib.Omega.{arith}
 use lib.ListN.{length, getD}
 use Rattle.lists.proofs.Images.{getD-in}
 use Rattle.history.specs.Table.{opAt}
-use Rattle.columns.proofs.Filled.{Filled, filled-none, filled-more, filled-end, stamp-small}
+use Rattle.lists.proofs.Filled.{Filled, filled-none, filled-more, filled-end}
+use Rattle.columns.proofs.Stamps.{stamp-small}
 use Rattle.columns.specs.Finishes.{stampOf}
 use Rattle.columns.proofs.doubled.Statement.{statement}
 use Rattle.columns.proofs.doubled.Tie as tie

@@ -1,6 +1,6 @@
 -- The columns that the five calls leave are those of the prepared history (`made`).
 use borrow.Author.Needs.{needs}
-use Rattle.columns.proofs.Listed.{listed-fit, listed-tied}
+use Rattle.columns.proofs.Listed.{listed-fit, listed-few, listed-tied}
 use Rattle.columns.proofs.Made.{made, tied-by, link-asks}
 use Rattle.columns.proofs.fill.Statement.{statement}
 use Rattle.columns.proofs.fill.Tie as tie
@@ -9,7 +9,7 @@ doubled-requires : tie.Need-doubled-requires
 doubled-requires c κs = let p = c .before .before .before .before .before .before .before .before .pre in (p .0 .room-start, listed-fit (p .1 .1))
 
 writers-requires : tie.Need-writers-requires
-writers-requires c κs = let p = c .before .before .before .before .before .before .before .before .before .before .before .before .pre in (p .0 .room-writer, listed-fit (p .1 .1))
+writers-requires c κs = let p = c .before .before .before .before .before .before .before .before .before .before .before .before .pre in (listed-fit (p .1 .1) .inside, (listed-few (p .1 .1), p .0 .room-writer))
 
 finishes-requires : tie.Need-finishes-requires
 finishes-requires c κs =

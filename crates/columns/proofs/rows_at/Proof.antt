@@ -3,7 +3,7 @@ use Prim.Native.Nat.{_-_}
 use native.Mathlib.Omega.{arith}
 use lib.ListN.{length, getD}
 use borrow.Author.Needs.{needs}
-use Rattle.columns.proofs.Filled.{Filled, filled-none, filled-more, filled-end}
+use Rattle.lists.proofs.Filled.{Filled, filled-none, filled-more, filled-end}
 use Rattle.columns.proofs.rows_at.Statement.{statement}
 use Rattle.columns.proofs.rows_at.Tie as tie
 

@@ -1,10 +1,5 @@
--- The loop that fills a column with a function of the rows.
+-- The loop that fills a column with a function of the numbers of a list.
 -- Assumes nothing.
-use Rattle.history.specs.declared.Op.{Op}
-use Rattle.history.specs.Table.{largestStamp}
-use Rattle.columns.specs.declared.Stamp.{Stamp}
-use Rattle.columns.specs.declared.Stamp.the-variants.{Start, Finish}
-use Rattle.columns.specs.Finishes.{stampOf}
 use Prim.Native.Nat.{ℕ, suc, _+_, _≤_, _<_}
 use mathlib.Core.Path.{_≡_, refl, ap, _∙_}
 use mathlib.Core.List.{List, [], _∷_, _++_, map, append-nil}
@@ -43,8 +38,3 @@ module _ (g : ℕ → ℕ) (rows out₀ : List ℕ) where
     filled-end i out h f =
         let e : i ≡ length rows = omega (arith, f .within) in
         f .written ∙ rw (e, take-length rows, ← q, drop-length out₀) (append-nil _)
-
--- a stamp that passed the screening can be doubled
-pub stamp-small : (which : Stamp) (o : Op) → o .start < o .finish → o .finish ≤ largestStamp → stampOf which o ≤ largestStamp
-stamp-small Start o h k = omega arith
-stamp-small Finish o h k = k

@@ -1,16 +1,17 @@
--- The loop fills the column (`Filled`).
+-- The loop fills the column with the values (`Filled`).
 use Prim.Native.Nat.{_-_}
-use mathlib.Core.Path.{_∙_}
+use mathlib.Core.Path.{ap}
 use native.Mathlib.Omega.{arith}
 use lib.ListN.{length}
 use Rattle.lists.proofs.Images.{getD-in}
-use Rattle.columns.specs.Writers.{writerOf}
-use Rattle.columns.proofs.Filled.{Filled, filled-none, filled-more, filled-end}
-use Rattle.columns.proofs.writers.Statement.{statement}
-use Rattle.columns.proofs.writers.Tie as tie
+use Rattle.lists.proofs.Filled.{Filled, filled-none, filled-more, filled-end}
+use Rattle.history.specs.declared.Op.{Op}
+use Rattle.writers.specs.Writers.{valueOf}
+use Rattle.writers.proofs.value_of.Statement.{statement}
+use Rattle.writers.proofs.value_of.Tie as tie
 
 abbrev Inv-loop : tie.InvT-loop
-Inv-loop table rows out₀ i₀ out i = Filled (writerOf table rows) rows out₀ i out
+Inv-loop table rows out₀ i₀ out i = Filled (valueOf table) rows out₀ i out
 
 abbrev μ-loop : tie.MeasureT-loop
 μ-loop table rows out₀ i₀ out i = length rows - i
@@ -28,10 +29,7 @@ at-requires : tie.Need-at-requires Inv-loop μ-loop
 at-requires c κs =
     let a = c .before .before .before .before .before .before in
     let l = c .before .before .loop in
-    a .pre .1 .inside _ (getD-in (a .args .rows .now) 0 (l .i) (omega arith))
-
-writer-requires : tie.Need-writer-requires Inv-loop μ-loop
-writer-requires c κs = c .before .before .before .before .before .before .before .pre .1
+    a .pre .1 _ (getD-in (a .args .rows .now) 0 (l .i) (omega arith))
 
 mul-out : tie.Need-mul-out Inv-loop μ-loop
 mul-out c = omega arith
@@ -46,7 +44,7 @@ loop-less : tie.Need-loop-less Inv-loop μ-loop
 loop-less c = omega arith
 
 loop-again : tie.Need-loop-again Inv-loop μ-loop
-loop-again c = filled-more _ _ _ (omega arith) _ _ _ (omega arith) (c .writer .ensures ∙ rw (c .before .at .ensures)) (c .before .before .before .before .loop .inv)
+loop-again c = filled-more _ _ _ (omega arith) _ _ _ (omega arith) (ap (λ (o : Op). o .value) (c .at .ensures)) (c .before .before .before .loop .inv)
 
 same-length : tie.Need-same-length Inv-loop μ-loop
 same-length c = c .before .loop .inv .long
@@ -54,8 +52,8 @@ same-length c = c .before .loop .inv .long
 returns : tie.Need-returns Inv-loop μ-loop
 returns c = filled-end _ _ _ (omega arith) _ _ (omega arith) (c .before .loop .inv)
 
-pub writers-spec : {M : Type 1} → statement M
-writers-spec =
+pub value-of-spec : {M : Type 1} → statement M
+value-of-spec =
     tie.close
     (tie.spec
     Inv-loop
@@ -64,7 +62,6 @@ writers-spec =
     mul-at
     shared-slice-read-at
     at-requires
-    writer-requires
     mul-out
     slice-write-out
     add-i

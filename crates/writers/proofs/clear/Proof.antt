@@ -3,9 +3,9 @@ use Prim.Native.Nat.{_-_}
 use mathlib.Core.Path.{refl}
 use native.Mathlib.Omega.{arith}
 use lib.ListN.{length}
-use Rattle.columns.proofs.Filled.{Filled, filled-none, filled-more, filled-end}
-use Rattle.columns.proofs.clear.Statement.{statement}
-use Rattle.columns.proofs.clear.Tie as tie
+use Rattle.lists.proofs.Filled.{Filled, filled-none, filled-more, filled-end}
+use Rattle.writers.proofs.clear.Statement.{statement}
+use Rattle.writers.proofs.clear.Tie as tie
 
 abbrev Inv-loop : tie.InvT-loop
 Inv-loop list₀ i₀ list i = Filled (λ _. 0) list₀ list₀ i list

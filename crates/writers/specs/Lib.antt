@@ -1,0 +1,3 @@
+-- The write of each row.
+pub mod Writers
+pub mod Marked

@@ -1,0 +1,119 @@
+// The write of each of a list of rows, as a position among the rows.
+use history::Op;
+use history::Row;
+ghost use mathlib.Core.Path.{_≡_};
+ghost use mathlib.Core.List.{map};
+ghost use Prim.Native.Nat.{ℕ, _≤_, _<_};
+ghost use lib.ListN.{length, getD};
+ghost use Rattle.history.specs.Table.{largestCount};
+ghost use Rattle.sorting.specs.Firsts.{Firsts};
+ghost use Rattle.writers.specs.Writers.{Within, writerOf, valueOf};
+ghost use Rattle.writers.specs.Marked.{Marked};
+
+// Zeros.
+pub fn clear(list: &mut [u64])
+    ensures { λ _. ⌜ now (list .exit) ≡ map (λ _. 0) (now (list .entry)) ⌝ }
+{
+    let mut i: usize = 0;
+    while i < list.len() {
+        list[i] = 0;
+        i += 1;
+    }
+}
+
+// The value of each row.
+fn value_of(table: &[u64], rows: &[u64], out: &mut [u64])
+    requires { ⌜ length (now out) ≡ length (now rows) ⌝ }
+    requires { ⌜ Within (now table) (now rows) ⌝ }
+    ensures { λ _. ⌜ now (out .exit) ≡ map (valueOf (now (table .entry))) (now (rows .entry)) ⌝ }
+{
+    let mut i: usize = 0;
+    while i < rows.len() {
+        let o = Op::at(table, rows[i] as usize);
+        out[i] = o.value;
+        i += 1;
+    }
+}
+
+// Leaves at the first holder of each value how many rows there are from the value's first write on; 0 where none writes it.
+fn mark(table: &[u64], rows: &[u64], firsts: &[u64], slots: &mut [u64])
+    requires { ⌜ Within (now table) (now rows) ⌝ }
+    requires { ⌜ length (now rows) ≤ length (now firsts) ⌝ }
+    requires { ⌜ Firsts (map (valueOf (now table)) (now rows)) (now firsts) ⌝ }
+    requires { ⌜ length (now slots) ≡ length (now rows) ⌝ }
+    requires { ⌜ ((j : ℕ) → j < length (now rows) → getD (now slots) j 0 ≡ 0) ⌝ }
+    ensures { λ _. ⌜ Marked (now (table .entry)) (now (rows .entry)) (now (firsts .entry)) (now (slots .exit)) ⌝ }
+{
+    let n = rows.len();
+    let mut i = n;
+    while i > 0 {
+        i -= 1;
+        let o = Op::at(table, rows[i] as usize);
+        if o.is_write() {
+            let first = firsts[i] as usize;
+            slots[first] = (n - i) as u64;
+        }
+    }
+}
+
+// The write of each row, from what is left at the first holder of its value.
+fn pick(table: &[u64], rows: &[u64], firsts: &[u64], slots: &[u64], out: &mut [u64])
+    requires { ⌜ length (now rows) ≤ length (now firsts) ⌝ }
+    requires { ⌜ Firsts (map (valueOf (now table)) (now rows)) (now firsts) ⌝ }
+    requires { ⌜ Marked (now table) (now rows) (now firsts) (now slots) ⌝ }
+    requires { ⌜ length (now out) ≡ length (now rows) ⌝ }
+    ensures { λ _. ⌜ now (out .exit) ≡ map (writerOf (now (table .entry)) (now (rows .entry))) (now (rows .entry)) ⌝ }
+{
+    let n = rows.len();
+    let mut i: usize = 0;
+    while i < n {
+        let first = firsts[i] as usize;
+        out[i] = n as u64 - slots[first];
+        i += 1;
+    }
+}
+
+// The write of each row; the three slices have a place for each.
+fn writers_with(
+    table: &[u64],
+    rows: &[u64],
+    values: &mut [u64],
+    firsts: &mut [u64],
+    slots: &mut [u64],
+    out: &mut [u64],
+)
+    requires { ⌜ Within (now table) (now rows) ⌝ }
+    requires { ⌜ length (now rows) ≤ largestCount ⌝ }
+    requires { ⌜ length (now values) ≡ length (now rows) ⌝ }
+    requires { ⌜ length (now firsts) ≡ length (now rows) ⌝ }
+    requires { ⌜ length (now slots) ≡ length (now rows) ⌝ }
+    requires { ⌜ length (now out) ≡ length (now rows) ⌝ }
+    ensures { λ _. ⌜ now (out .exit) ≡ map (writerOf (now (table .entry)) (now (rows .entry))) (now (rows .entry)) ⌝ }
+{
+    value_of(table, rows, values);
+    sorting::firsts(values, firsts);
+    clear(slots);
+    mark(table, rows, firsts, slots);
+    pick(table, rows, firsts, slots, out);
+}
+
+// The position of the first write of each row's value among the rows; their number where there is none.
+pub fn writers(table: &[u64], rows: &[u64], out: &mut [u64])
+    requires { ⌜ Within (now table) (now rows) ⌝ }
+    requires { ⌜ length (now rows) ≤ largestCount ⌝ }
+    requires { ⌜ length (now out) ≡ length (now rows) ⌝ }
+    ensures { λ _. ⌜ now (out .exit) ≡ map (writerOf (now (table .entry)) (now (rows .entry))) (now (rows .entry)) ⌝ }
+{
+    let n = rows.len();
+    let mut values = [0u64; Row::LARGEST_COUNT];
+    let mut firsts = [0u64; Row::LARGEST_COUNT];
+    let mut slots = [0u64; Row::LARGEST_COUNT];
+    writers_with(
+        table,
+        rows,
+        &mut values[..n],
+        &mut firsts[..n],
+        &mut slots[..n],
+        out,
+    );
+}
