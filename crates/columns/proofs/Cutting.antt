@@ -22,7 +22,8 @@ use Rattle.methods.specs.Prepared.{sameValue, noWrite, readsOf, finishesBelow, 
 use Rattle.witnesses.proofs.Extremes.{least-begin}
 use Rattle.preparation.proofs.Finish.{new-read}
 use Rattle.columns.specs.Rows.{Fit}
-use Rattle.columns.specs.Writers.{rowOp, Tied}
+use Rattle.writers.specs.Writers.{rowOp}
+use Rattle.columns.specs.Writers.{Tied}
 use Rattle.columns.specs.Finishes.{lowered, ending}
 
 -- the smallest does not depend on the number that it is begun with

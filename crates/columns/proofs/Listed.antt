@@ -21,9 +21,9 @@ use Rattle.preparation.proofs.Timed.{Timed, timed, from-sorted}
 use Rattle.preparation.proofs.Rows.{history-rows}
 use Rattle.positions.proofs.Places.{below}
 use Rattle.columns.specs.Rows.{Listed, Fit}
-use Rattle.writers.specs.Writers.{writesAt, writerOf}
+use Rattle.writers.specs.Writers.{writesAt, writerOf, rowOp}
 use Rattle.writers.proofs.Seeking.{writes-is, is-writes, seek-in}
-use Rattle.columns.specs.Writers.{rowOp, Tied}
+use Rattle.columns.specs.Writers.{Tied}
 
 -- the rows by rising start
 pub sortedRows : List ℕ → ℕ → List ℕ

@@ -14,8 +14,8 @@ use Rattle.preparation.proofs.Shorten.{prepared-history}
 use Rattle.preparation.proofs.Rows.{history-rows}
 use Rattle.positions.specs.Columns.{cols, Linked, nothing, op, Of}
 use Rattle.columns.specs.Rows.{Listed}
-use Rattle.writers.specs.Writers.{writerOf}
-use Rattle.columns.specs.Writers.{rowOp, Tied}
+use Rattle.writers.specs.Writers.{writerOf, rowOp}
+use Rattle.columns.specs.Writers.{Tied}
 use Rattle.columns.specs.Finishes.{ending}
 use Rattle.columns.specs.Made.{Made}
 use Rattle.columns.proofs.Listed.{listed-ops, listed-tied}

@@ -5,12 +5,8 @@ use mathlib.Core.Path.{_≡_}
 use mathlib.Core.Bool.{true}
 use mathlib.Core.List.{List}
 use lib.ListN.{length, getD}
-use Rattle.history.specs.declared.Op.{Op}
-use Rattle.history.specs.Table.{opAt, isWrite}
-
--- the operation of the row at a position
-abbrev pub rowOp : List ℕ → List ℕ → ℕ → Op
-rowOp t rows j = opAt t (getD rows j 0)
+use Rattle.history.specs.Table.{isWrite}
+use Rattle.writers.specs.Writers.{rowOp}
 
 -- positions of writes of the same value, the only ones
 pub record Tied (t rows writer : List ℕ) : Type 0 where

@@ -30,32 +30,32 @@ unfolding wrongSpan
 told-span o = told-or (told-not (told-ltb (o .start) (o .finish))) (told-ltb largestStamp (o .finish))
 
 -- e has the stamp s
-abbrev HasStamp : Op → ℕ → Type 0
+abbrev pub HasStamp : Op → ℕ → Type 0
 HasStamp e s = (e .start ≡ s) ⊎ (e .finish ≡ s)
 
 told-stamp : (e : Op) (s : ℕ) → Told (HasStamp e s) (hasStamp e s)
 told-stamp e s = told-or (told-eqb (e .start) s) (told-eqb (e .finish) s)
 
-abbrev Shares : Op → Op → Type 0
+abbrev pub Shares : Op → Op → Type 0
 Shares o e = (e .row < o .row) × (HasStamp e (o .start) ⊎ HasStamp e (o .finish))
 
-told-shares : (h : List Op) (o : Op) → Told ((e : Op) × In e h × Shares o e) (sharesStamp h o)
+pub told-shares : (h : List Op) (o : Op) → Told ((e : Op) × In e h × Shares o e) (sharesStamp h o)
 unfolding sharesStamp shares
 told-shares h o = told-any (shares o) h (λ e. told-and (told-ltb (e .row) (o .row)) (told-or (told-stamp e (o .start)) (told-stamp e (o .finish))))
 
-abbrev Repeats : Op → Op → Type 0
+abbrev pub Repeats : Op → Op → Type 0
 Repeats o e = ((e .row < o .row) × (e .kind ≡ 1)) × (e .value ≡ o .value)
 
-told-rewrites : (h : List Op) (o : Op) → Told ((o .kind ≡ 1) × ((e : Op) × In e h × Repeats o e)) (rewrites h o)
+pub told-rewrites : (h : List Op) (o : Op) → Told ((o .kind ≡ 1) × ((e : Op) × In e h × Repeats o e)) (rewrites h o)
 unfolding rewrites repeats
 told-rewrites h o =
     told-and (told-write o) (told-any (repeats o) h (λ e. told-and (told-and (told-ltb (e .row) (o .row)) (told-write e)) (told-eqb (e .value) (o .value))))
 
-told-unwritten : (h : List Op) (o : Op) → Told ((o .kind ≡ 2) × (((w : Op) × In w h × Dictates w o) → ⊥)) (unwritten h o)
+pub told-unwritten : (h : List Op) (o : Op) → Told ((o .kind ≡ 2) × (((w : Op) × In w h × Dictates w o) → ⊥)) (unwritten h o)
 unfolding unwritten dictatedBy
 told-unwritten h o = told-and (told-read o) (told-not (told-any (dictatedBy o) h (λ w. told-dictates w o)))
 
-told-early : (h : List Op) (o : Op) → Told ((o .kind ≡ 2) × ((w : Op) × In w h × (Dictates w o × Precedes o w))) (tooEarly h o)
+pub told-early : (h : List Op) (o : Op) → Told ((o .kind ≡ 2) × ((w : Op) × In w h × (Dictates w o × Precedes o w))) (tooEarly h o)
 unfolding tooEarly precedesWrite
 told-early h o = told-and (told-read o) (told-any (precedesWrite o) h (λ w. told-and (told-dictates w o) (told-precedes o w)))
 

@@ -104,3 +104,9 @@ module _ {A : Type 0} where
   pub map-ext : {B : Type 0} (f g : A → B) (l : List A) → ((x : A) → In x l → f x ≡ g x) → map f l ≡ map g l
   map-ext f g [] h = refl
   map-ext f g (x ∷ l) h = ap₂ (λ y r. y ∷ r) (h x (here refl)) (map-ext f g l (λ y m. h y (there m)))
+
+-- a search among images
+pub first-map : {A B : Type 0} (f : A → B) (key : B → ℕ) (p : B → Bool) (l : List A) → first key p (map f l) ≡ first (λ x. key (f x)) (λ x. p (f x)) l
+unfolding first
+first-map f key p [] = refl
+first-map f key p (x ∷ l) = ap (cond (p (f x)) (At (key (f x)))) (first-map f key p l)

@@ -1,11 +1,11 @@
 -- What a test tells of the statement that it tests: that it holds, or that it does not. One law a connective; both directions follow.
 -- Assumes nothing.
-use Prim.Native.Nat.{ℕ, _<_}
+use Prim.Native.Nat.{ℕ, _≤_, _<_}
 use mathlib.Core.Path.{_≡_, refl, sym, ap, _∙_}
 use mathlib.Core.Bool.{Bool, true, false, not, _&&_, _||_, true≢false}
 use mathlib.Core.Logic.{_⊎_, inl, inr}
-use lib.Dec.{ltb, eqb}
-use borrow.Author.Tests.{ltb-true, ltb-false, eqb-true, eqb-false}
+use lib.Dec.{ltb, leb, eqb}
+use borrow.Author.Tests.{ltb-true, ltb-false, leb-true, leb-false, eqb-true, eqb-false}
 use native.Mathlib.Omega.{arith}
 
 pub data Told (P : Type 0) : Bool → Type 0 where
@@ -103,3 +103,10 @@ told-eqb a b = go (eqb a b) refl
     go : (t : Bool) → eqb a b ≡ t → Told (a ≡ b) t
     go true e = holds (eqb-true a b e)
     go false e = fails (eqb-false a b e)
+
+pub told-leb : (a b : ℕ) → Told (a ≤ b) (leb a b)
+told-leb a b = go (leb a b) refl
+  where
+    go : (t : Bool) → leb a b ≡ t → Told (a ≤ b) t
+    go true e = holds (leb-true a b e)
+    go false e = fails (λ h. omega (arith, leb-false a b e))

@@ -1,37 +1,102 @@
 -- Tests 1 to 9 as the code runs them: past the first three, a chain of the six that look at each row.
 -- Assumes nothing.
 use Prim.Native.Nat.{ℕ, _≤_, _/_, _%_}
-use mathlib.Core.Path.{_≡_, refl, ap₂}
-use mathlib.Core.Bool.{Bool, false}
-use mathlib.Core.List.{List, [], _∷_, map}
+use mathlib.Core.Path.{_≡_, refl, ap, ap₂, sym, _∙_}
+use mathlib.Core.Logic.{_≢_}
+use mathlib.Core.Bool.{Bool, true, false, cond}
+use mathlib.Core.List.{List, map}
 use native.Mathlib.Omega.{arith}
-use borrow.Author.Tests.{eq-eqb, le-ltb}
+use borrow.Author.Tests.{eq-eqb, le-ltb, eqb-true, eqb-false}
+use lib.Dec.{eqb}
 use lib.ListN.{length}
+use Rattle.lists.specs.declared.Found.{Found}
+use Rattle.lists.specs.declared.Found.the-variants.{At, Nothing}
 use Rattle.history.specs.declared.Op.{Op}
-use Rattle.history.specs.Table.{largestCount, Alike}
-use Rattle.history.specs.Answer.{Test, firstMet, passed}
+use Rattle.history.specs.declared.Answer.{Answer}
+use Rattle.history.specs.Table.{largestCount, Alike, opAt}
+use Rattle.history.specs.Answer.{Code, number, Test, test, refusedOr, firstMet, passed, lowestRow}
 use Rattle.history.specs.Screen.{tests, examined, screening}
 use Rattle.history.proofs.Rows.{same-history}
 use Rattle.history.proofs.Refusals.{Coded, orTest, chained, met-chained}
+use Rattle.screening.specs.declared.RowTest.{RowTest}
 use Rattle.screening.specs.declared.RowTest.the-variants.{Kind, Span, Shared, Twin, Orphan, Early}
-use Rattle.screening.specs.Tests.{condition, rowTest}
-
-rowTests : List Op → List Test
-rowTests h = map (rowTest h) (Kind ∷ Span ∷ Shared ∷ Twin ∷ Orphan ∷ Early ∷ [])
+use Rattle.screening.specs.Tests.{condition, rowTests, shows, lowestAt, shownTest, Listed, Filled}
+use Rattle.screening.proofs.Shows.{lowest-is, shared-is, twin-is, orphan-is, early-is}
 
 coded : (h : List Op) → Coded (rowTests h)
 unfolding rowTests
 coded h = omega arith
 
-module _ (size : ℕ) (h : List Op) (b : Bool) (whole : size % 5 ≡ 0) (few : size / 5 ≤ largestCount) (asked : b ≡ false) where
-  past-three : examined size h b ≡ firstMet (rowTests h) (passed (length h))
-  unfolding examined tests firstMet rowTests condition
-  past-three = rw (eq-eqb (size % 5) 0 whole, le-ltb largestCount (size / 5) few, asked)
+-- past the first three
+pub past-three : (size : ℕ) (h : List Op) (b : Bool) → size % 5 ≡ 0 → size / 5 ≤ largestCount → b ≡ false → examined size h b ≡ firstMet (rowTests h) (passed (length h))
+unfolding examined tests firstMet rowTests condition
+past-three size h b whole few asked = rw (eq-eqb (size % 5) 0 whole, le-ltb largestCount (size / 5) few, asked)
 
-  pub examined-chained : examined size h b ≡
-      orTest (orTest (orTest (orTest (orTest (orTest (passed (length h)) (rowTest h Kind)) (rowTest h Span)) (rowTest h Shared)) (rowTest h Twin)) (rowTest h Orphan)) (rowTest h Early)
+-- a chain of code 0 met no condition
+or-zero : (a : Answer) (x : Test) → number (x .code) ≢ 0 → orTest a x .code ≡ 0 → (a .code ≡ 0) × (x .fault ≡ Nothing)
+unfolding orTest
+or-zero a x c e = go (eqb (a .code) 0) refl (x .fault) refl e
+  where
+    go : (b : Bool) → eqb (a .code) 0 ≡ b → (f : Found) → x .fault ≡ f → cond b (refusedOr (x .code) f a) a .code ≡ 0 → (a .code ≡ 0) × (x .fault ≡ Nothing)
+    go true q (At row) r z = absurd (c z)
+    go true q Nothing r z = (z, r)
+    go false q f r z = absurd (eqb-false (a .code) 0 q z)
+
+-- a test counts only where nothing was refused
+or-same : (a : Answer) (c : Code) (f g : Found) → (a .code ≡ 0 → f ≡ g) → orTest a (test c f) ≡ orTest a (test c g)
+unfolding orTest
+or-same a c f g h = go (eqb (a .code) 0) refl
+  where
+    go : (b : Bool) → eqb (a .code) 0 ≡ b → cond b (refusedOr c f a) a ≡ cond b (refusedOr c g a) a
+    go true q = ap (λ (x : Found). refusedOr c x a) (h (eqb-true (a .code) 0 q))
+    go false q = refl
+
+module _ (t rows stamps firsts writer : List ℕ) (g : Listed t rows) (f : Filled t rows stamps firsts writer) where
+  abbrev h : List Op
+  h = map (opAt t) rows
+
+  -- the test by what the code looks at, and by the definition
+  abbrev Same : List ℕ → RowTest → Type 0
+  Same column x = lowestAt (shows x t rows column) rows ≡ lowestRow (condition x h) h
+
+  kind-same : (column : List ℕ) → Same column Kind
+  unfolding shows condition
+  kind-same column = lowest-is t rows (shows Kind t rows column) (condition Kind h) (λ i l. refl)
+
+  span-same : (column : List ℕ) → Same column Span
+  unfolding shows condition
+  span-same column = lowest-is t rows (shows Span t rows column) (condition Span h) (λ i l. refl)
+
+  shared-same : Same firsts Shared
+  shared-same = lowest-is t rows (shows Shared t rows firsts) (condition Shared h) (shared-is t rows (g .rising) stamps firsts (f .stamped) (f .placed))
+
+  twin-same : Same writer Twin
+  twin-same = lowest-is t rows (shows Twin t rows writer) (condition Twin h) (twin-is t rows (g .rising) writer (f .written))
+
+  orphan-same : Same writer Orphan
+  orphan-same = lowest-is t rows (shows Orphan t rows writer) (condition Orphan h) (orphan-is t rows (g .rising) writer (f .written))
+
+  early-same : lowestRow (condition Twin h) h ≡ Nothing → Same writer Early
+  unfolding condition
+  early-same once = lowest-is t rows (shows Early t rows writer) (condition Early h) (early-is t rows (g .rising) writer (f .written) once)
+
+  -- the chain up to the orphans
+  abbrev pub upto : List ℕ → List ℕ → Answer
+  upto a b =
+      orTest (orTest (orTest (orTest (orTest (passed (length rows)) (shownTest t rows a Kind)) (shownTest t rows b Span)) (shownTest t rows firsts Shared)) (shownTest t rows writer Twin)) (shownTest t rows writer Orphan)
+
+  -- no condition was met up to the orphans, so that no write repeats a value
+  once : (a b : List ℕ) → upto a b .code ≡ 0 → lowestRow (condition Twin h) h ≡ Nothing
+  once a b z =
+      let orphan = or-zero _ (shownTest t rows writer Orphan) (omega arith) z in
+      sym twin-same ∙ or-zero _ (shownTest t rows writer Twin) (omega arith) (orphan .0) .1
+
+  pub rows-examined : (a b : List ℕ) → orTest (upto a b) (shownTest t rows writer Early) ≡ firstMet (rowTests h) (passed (length rows))
   unfolding rowTests chained
-  examined-chained = rw past-three (met-chained (rowTests h) (coded h) (passed (length h)) refl)
+  rows-examined a b =
+      or-same _ _ _ _ (λ z. early-same (once a b z))
+      ∙ rw (kind-same a, span-same b, shared-same, twin-same, orphan-same) refl
+      ∙ sym (met-chained (rowTests h) (coded h) (passed (length rows)) refl)
 
 -- Only the register's rows are examined: a table alike gets the same answer.
 pub alike-screening : (t u : List ℕ) (register : ℕ) → Alike t u register → screening t register ≡ screening u register

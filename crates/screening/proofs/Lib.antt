@@ -1,2 +1,4 @@
--- What the code's chain of tests computes.
+-- What the code looks at, its loops, and what its chain of tests computes.
+pub mod Shows
+pub mod Loops
 pub mod Chain

@@ -4,27 +4,19 @@ use history::Op;
 use history::Row;
 use lists::Found;
 ghost use mathlib.Core.Path.{_≡_};
-ghost use mathlib.Core.Bool.{false};
+ghost use mathlib.Core.Bool.{_&&_};
 ghost use mathlib.Core.Logic.{_↔_};
-ghost use Prim.Native.Nat.{ℕ, _+_, _*_, _≤_};
-ghost use mathlib.Core.List.{List};
-ghost use lib.ListN.{length};
-ghost use Rattle.lists.specs.Lists.{any};
-ghost use Rattle.history.specs.Table.{history, Alike};
-ghost use Rattle.history.specs.Answer.{number, lowestRow};
-ghost use Rattle.history.specs.Screen.{wrongKind, wrongSpan, earlier, hasStamp, shares, repeats, rewrites, unwritten, precedesWrite, tooEarly, examined, screening, Screened};
-ghost use Rattle.history.proofs.Searches.{meetsAt, oneIf};
+ghost use Prim.Native.Nat.{ℕ, _+_, _*_, _≤_, _<_};
+ghost use mathlib.Core.List.{List, map};
+ghost use lib.Dec.{ltb, leb};
+ghost use lib.ListN.{length, getD, take};
+ghost use Rattle.history.specs.Table.{largestCount, rowCount, opAt, bears, rowsOf, history, Alike, isWrite, isRead, precedes};
+ghost use Rattle.history.specs.Answer.{number, firstMet, passed};
+ghost use Rattle.history.specs.Screen.{wrongKind, wrongSpan, examined, screening, Screened};
+ghost use Rattle.history.proofs.Searches.{oneIf};
 ghost use Rattle.history.proofs.Refusals.{orTest};
-ghost use Rattle.history.specs.Table.{bears};
-ghost use Rattle.screening.specs.Tests.{related, codeOf, condition, rowTest};
-
-// How an operation may stand to another of its register.
-enum Pair {
-    Shares,
-    Repeats,
-    Dictated,
-    Early,
-}
+ghost use Rattle.writers.specs.Writers.{Within, rowOp};
+ghost use Rattle.screening.specs.Tests.{codeOf, rowTests, Stamped, sharedAt, shows, lowestAt, shownTest, Listed, Ready, Filled};
 
 // The tests that look at each row of the register, in their sequence.
 enum RowTest {
@@ -54,153 +46,88 @@ fn wrong_span(o: Op) -> bool
     true
 }
 
-fn earlier(e: Op, o: Op) -> bool
-    ensures { λ r. ⌜ r ≡ earlier e o ⌝ }
+// The number at a place; 0 past the end.
+fn entry(list: &[u64], place: usize) -> u64
+    ensures { λ r. ⌜ r ≡ getD (now (list .entry)) place 0 ⌝ }
 {
-    e.row < o.row
+    if place < list.len() { list[place] } else { 0 }
 }
 
-fn has_stamp(e: Op, stamp: u64) -> bool
-    ensures { λ r. ⌜ r ≡ hasStamp e stamp ⌝ }
+// Whether a stamp of the i-th row stands in an earlier one, by the first place of each stamp.
+fn shared(firsts: &[u64], i: usize) -> bool
+    requires { ⌜ i < largestCount ⌝ }
+    ensures { λ r. ⌜ r ≡ sharedAt (now (firsts .entry)) i ⌝ }
 {
-    if e.start == stamp {
+    let own = 2 * i;
+    let start = entry(firsts, own) as usize;
+    if start < own {
         return true;
     }
-    e.finish == stamp
+    let finish = entry(firsts, own + 1) as usize;
+    finish < own
 }
 
-// Whether o has a stamp of the earlier operation e.
-fn shares(o: Op, e: Op) -> bool
-    ensures { λ r. ⌜ r ≡ shares o e ⌝ }
-{
-    if !earlier(e, o) {
-        return false;
-    }
-    if has_stamp(e, o.start) {
-        return true;
-    }
-    has_stamp(e, o.finish)
-}
-
-// Whether the earlier operation e writes the value of o.
-fn repeats(o: Op, e: Op) -> bool
-    ensures { λ r. ⌜ r ≡ repeats o e ⌝ }
-{
-    if !earlier(e, o) {
-        return false;
-    }
-    if e.is_write() {
-        return e.value == o.value;
-    }
-    false
-}
-
-// Whether o precedes w, which dictates it.
-fn precedes_write(o: Op, w: Op) -> bool
-    ensures { λ r. ⌜ r ≡ precedesWrite o w ⌝ }
-{
-    if w.dictates(o) {
-        return o.precedes(w);
-    }
-    false
-}
-
-fn related(pair: Pair, o: Op, e: Op) -> bool
-    ensures { λ r. ⌜ r ≡ related pair o e ⌝ }
-{
-    match pair {
-        Pair::Shares => shares(o, e),
-        Pair::Repeats => repeats(o, e),
-        Pair::Dictated => e.dictates(o),
-        Pair::Early => precedes_write(o, e),
-    }
-}
-
-fn related_at(table: &[u64], register: u64, pair: Pair, o: Op, row: usize) -> bool
-    requires { ⌜ row * 5 + 5 ≤ length (now table) ⌝ }
-    ensures { λ r. ⌜ r ≡ meetsAt (now (table .entry)) register (related pair o) row ⌝ }
-{
-    if history::bears(table, register, row) {
-        return related(pair, o, Op::at(table, row));
-    }
-    false
-}
-
-// Whether o stands so to some operation of the register.
-fn some_related(table: &[u64], register: u64, pair: Pair, o: Op) -> bool
-    ensures { λ r. ⌜ r ≡ any (related pair o) (history (now (table .entry)) register) ⌝ }
-{
-    let n = table.len() / Row::COLUMNS;
-    let mut i = 0;
-    while i < n {
-        if related_at(table, register, pair, o, i) {
-            return true;
-        }
-        i += 1;
-    }
-    false
-}
-
-fn rewrites(table: &[u64], register: u64, o: Op) -> bool
-    ensures { λ r. ⌜ r ≡ rewrites (history (now (table .entry)) register) o ⌝ }
+// Whether the i-th row is a write, and the first write of its value another.
+fn twin(o: Op, writer: usize, i: usize) -> bool
+    ensures { λ r. ⌜ r ≡ (isWrite o && ltb writer i) ⌝ }
 {
     if o.is_write() {
-        return some_related(table, register, Pair::Repeats, o);
+        return writer < i;
     }
     false
 }
 
-fn unwritten(table: &[u64], register: u64, o: Op) -> bool
-    ensures { λ r. ⌜ r ≡ unwritten (history (now (table .entry)) register) o ⌝ }
+// Whether a row is a read without a write among the n rows.
+fn orphan(o: Op, writer: usize, n: usize) -> bool
+    ensures { λ r. ⌜ r ≡ (isRead o && leb n writer) ⌝ }
 {
     if o.is_read() {
-        return !some_related(table, register, Pair::Dictated, o);
+        return n <= writer;
     }
     false
 }
 
-fn too_early(table: &[u64], register: u64, o: Op) -> bool
-    ensures { λ r. ⌜ r ≡ tooEarly (history (now (table .entry)) register) o ⌝ }
+// Whether a row is a read that precedes its write.
+fn early(table: &[u64], rows: &[u64], o: Op, writer: usize) -> bool
+    requires { ⌜ Within (now table) (now rows) ⌝ }
+    ensures { λ r. ⌜ r ≡ (isRead o && (ltb writer (length (now (rows .entry))) && precedes o (rowOp (now (table .entry)) (now (rows .entry)) writer))) ⌝ }
 {
-    if o.is_read() {
-        return some_related(table, register, Pair::Early, o);
+    if !o.is_read() {
+        return false;
+    }
+    if writer < rows.len() {
+        return o.precedes(Op::at(table, rows[writer] as usize));
     }
     false
 }
 
-// Whether the test's condition is met by o, an operation of the register.
-fn meets(table: &[u64], register: u64, test: RowTest, o: Op) -> bool
-    ensures { λ r. ⌜ r ≡ condition test (history (now (table .entry)) register) o ⌝ }
+// Whether the i-th row meets the test's condition, by the column that the test looks at.
+fn meets(table: &[u64], rows: &[u64], column: &[u64], test: RowTest, i: usize) -> bool
+    requires { ⌜ Listed (now table) (now rows) ⌝ }
+    requires { ⌜ i < length (now rows) ⌝ }
+    ensures { λ r. ⌜ r ≡ shows test (now (table .entry)) (now (rows .entry)) (now (column .entry)) i ⌝ }
 {
+    let o = Op::at(table, rows[i] as usize);
     match test {
         RowTest::Kind => wrong_kind(o),
         RowTest::Span => wrong_span(o),
-        RowTest::Shared => some_related(table, register, Pair::Shares, o),
-        RowTest::Twin => rewrites(table, register, o),
-        RowTest::Orphan => unwritten(table, register, o),
-        RowTest::Early => too_early(table, register, o),
+        RowTest::Shared => shared(column, i),
+        RowTest::Twin => twin(o, entry(column, i) as usize, i),
+        RowTest::Orphan => orphan(o, entry(column, i) as usize, rows.len()),
+        RowTest::Early => early(table, rows, o, entry(column, i) as usize),
     }
 }
 
-fn meets_at(table: &[u64], register: u64, test: RowTest, row: usize) -> bool
-    requires { ⌜ row * 5 + 5 ≤ length (now table) ⌝ }
-    ensures { λ r. ⌜ r ≡ meetsAt (now (table .entry)) register (condition test (history (now (table .entry)) register)) row ⌝ }
+// The lowest of the rows that meets the test's condition.
+fn lowest(table: &[u64], rows: &[u64], column: &[u64], test: RowTest) -> Found
+    requires { ⌜ Listed (now table) (now rows) ⌝ }
+    ensures { λ r. ⌜ r ≡ lowestAt (shows test (now (table .entry)) (now (rows .entry)) (now (column .entry))) (now (rows .entry)) ⌝ }
 {
-    if history::bears(table, register, row) {
-        return meets(table, register, test, Op::at(table, row));
-    }
-    false
-}
-
-// The lowest row of the register that meets the test's condition.
-fn lowest(table: &[u64], register: u64, test: RowTest) -> Found
-    ensures { λ r. ⌜ r ≡ lowestRow (condition test (history (now (table .entry)) register)) (history (now (table .entry)) register) ⌝ }
-{
-    let n = table.len() / Row::COLUMNS;
-    let mut i = 0;
-    while i < n {
-        if meets_at(table, register, test, i) {
-            return Found::At(i);
+    let mut i: usize = 0;
+    while i < rows.len() {
+        if meets(table, rows, column, test, i) {
+            let row = rows[i] as usize;
+            return Found::At(row);
         }
         i += 1;
     }
@@ -246,16 +173,115 @@ fn code(test: RowTest) -> u64
 }
 
 // The refusal so far, or what the next test finds. A test that comes after a refusal is not run.
-fn or_test(table: &[u64], register: u64, answer: Answer, test: RowTest) -> Answer
-    ensures { λ r. ⌜ r ≡ orTest answer (rowTest (history (now (table .entry)) register) test) ⌝ }
+fn or_test(table: &[u64], rows: &[u64], column: &[u64], answer: Answer, test: RowTest) -> Answer
+    requires { ⌜ Listed (now table) (now rows) ⌝ }
+    ensures { λ r. ⌜ r ≡ orTest answer (shownTest (now (table .entry)) (now (rows .entry)) (now (column .entry)) test) ⌝ }
 {
     if answer.code != 0 {
         return answer;
     }
-    match lowest(table, register, test) {
+    match lowest(table, rows, column, test) {
         Found::At(row) => Answer::refused(code(test), row as u64),
         Found::Nothing => answer,
     }
+}
+
+// The rows of the register in table sequence, at the front of the slice; their number.
+fn gather(table: &[u64], register: u64, rows: &mut [u64]) -> usize
+    requires { ⌜ rowCount (now table) ≤ length (now rows) ⌝ }
+    ensures { λ r. ⌜ (r ≡ length (rowsOf (now (table .entry)) register)) × (take r (now (rows .exit)) ≡ rowsOf (now (table .entry)) register) ⌝ }
+{
+    let n = table.len() / Row::COLUMNS;
+    let mut m: usize = 0;
+    let mut i: usize = 0;
+    while i < n {
+        let row = i;
+        i += 1;
+        if history::bears(table, register, row) {
+            rows[m] = row as u64;
+            m += 1;
+        }
+    }
+    m
+}
+
+// The stamps of the rows, two a row.
+fn stamps_of(table: &[u64], rows: &[u64], out: &mut [u64])
+    requires { ⌜ Listed (now table) (now rows) ⌝ }
+    requires { ⌜ length (now out) ≡ 2 * length (now rows) ⌝ }
+    ensures { λ _. ⌜ Stamped (now (table .entry)) (now (rows .entry)) (now (out .exit)) ⌝ }
+{
+    let mut i: usize = 0;
+    while i < rows.len() {
+        let o = Op::at(table, rows[i] as usize);
+        let own = 2 * i;
+        out[own] = o.start;
+        out[own + 1] = o.finish;
+        i += 1;
+    }
+}
+
+// What tests 6 to 9 look at: the stamps of the rows, the first place of each stamp, and the write of each row.
+fn fill(table: &[u64], rows: &[u64], stamps: &mut [u64], firsts: &mut [u64], writer: &mut [u64])
+    requires { ⌜ Ready (now table) (now rows) (now stamps) (now firsts) (now writer) ⌝ }
+    ensures { λ _. ⌜ Filled (now (table .entry)) (now (rows .entry)) (now (stamps .exit)) (now (firsts .exit)) (now (writer .exit)) ⌝ }
+{
+    stamps_of(table, rows, stamps);
+    sorting::firsts(stamps, firsts);
+    writers::writers(table, rows, writer);
+}
+
+// Tests 4 to 9 of the rows.
+fn test_rows(table: &[u64], rows: &[u64], firsts: &[u64], writer: &[u64]) -> Answer
+    requires { ⌜ Listed (now table) (now rows) ⌝ }
+    requires { ⌜ ((stamps : List ℕ) × Filled (now table) (now rows) stamps (now firsts) (now writer)) ⌝ }
+    ensures { λ r. ⌜ r ≡ firstMet (rowTests (map (opAt (now (table .entry))) (now (rows .entry)))) (passed (length (now (rows .entry)))) ⌝ }
+{
+    let none = Answer::passed(rows.len() as u64);
+    let kind = or_test(table, rows, rows, none, RowTest::Kind);
+    let span = or_test(table, rows, rows, kind, RowTest::Span);
+    let shared = or_test(table, rows, firsts, span, RowTest::Shared);
+    let twin = or_test(table, rows, writer, shared, RowTest::Twin);
+    let orphan = or_test(table, rows, writer, twin, RowTest::Orphan);
+    or_test(table, rows, writer, orphan, RowTest::Early)
+}
+
+// Tests 4 to 9 of the rows, with places for what they look at.
+fn examine_rows(
+    table: &[u64],
+    rows: &[u64],
+    stamps: &mut [u64],
+    firsts: &mut [u64],
+    writer: &mut [u64],
+) -> Answer
+    requires { ⌜ Ready (now table) (now rows) (now stamps) (now firsts) (now writer) ⌝ }
+    ensures { λ r. ⌜ r ≡ firstMet (rowTests (map (opAt (now (table .entry))) (now (rows .entry)))) (passed (length (now (rows .entry)))) ⌝ }
+{
+    fill(table, rows, stamps, firsts, writer);
+    test_rows(table, rows, firsts, writer)
+}
+
+// Two stamps for each of the most rows.
+const LARGEST_STAMPS: usize = 2048;
+
+// Tests 4 to 9 of a register.
+fn examine_register(table: &[u64], register: u64) -> Answer
+    requires { ⌜ rowCount (now table) ≤ largestCount ⌝ }
+    ensures { λ r. ⌜ r ≡ firstMet (rowTests (history (now (table .entry)) register)) (passed (length (history (now (table .entry)) register))) ⌝ }
+{
+    let mut rows = [0u64; Row::LARGEST_COUNT];
+    let n = gather(table, register, &mut rows);
+    let m = 2 * n;
+    let mut stamps = [0u64; LARGEST_STAMPS];
+    let mut firsts = [0u64; LARGEST_STAMPS];
+    let mut writer = [0u64; Row::LARGEST_COUNT];
+    examine_rows(
+        table,
+        &rows[..n],
+        &mut stamps[..m],
+        &mut firsts[..m],
+        &mut writer[..n],
+    )
 }
 
 // Tests 1 to 9. `unasked` is the condition of test 3: no such question, or a k of 0.
@@ -271,13 +297,7 @@ pub fn examine(table: &[u64], register: u64, unasked: bool) -> Answer
     if unasked {
         return Answer::refused(Answer::NO_SUCH_QUESTION, 0);
     }
-    let none = Answer::passed(count(table, register) as u64);
-    let kind = or_test(table, register, none, RowTest::Kind);
-    let span = or_test(table, register, kind, RowTest::Span);
-    let shared = or_test(table, register, span, RowTest::Shared);
-    let twin = or_test(table, register, shared, RowTest::Twin);
-    let orphan = or_test(table, register, twin, RowTest::Orphan);
-    or_test(table, register, orphan, RowTest::Early)
+    examine_register(table, register)
 }
 
 // The screening: code 0 with the count of the register's rows exactly where the register is as the record `Screened` says.

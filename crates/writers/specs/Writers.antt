@@ -3,7 +3,7 @@
 use Prim.Native.Nat.{ℕ, suc, _+_, _*_, _≤_}
 use mathlib.Core.Bool.{Bool, false, cond}
 use mathlib.Core.List.{List, [], _∷_, List·Memᴰ as In}
-use lib.ListN.{length}
+use lib.ListN.{length, getD}
 use lib.Dec.{eqb}
 use Rattle.history.specs.declared.Op.{Op}
 use Rattle.history.specs.Table.{opAt, isWrite}
@@ -31,3 +31,7 @@ writerOf t rows x = seek (writesAt t (opAt t x .value)) rows
 -- the value of a row
 abbrev pub valueOf : List ℕ → ℕ → ℕ
 valueOf t x = opAt t x .value
+
+-- the operation of the row at a position
+abbrev pub rowOp : List ℕ → List ℕ → ℕ → Op
+rowOp t rows j = opAt t (getD rows j 0)

@@ -1,8 +1,21 @@
+use native.Mathlib.Omega.{arith}
+use mathlib.Core.Path.{_∙_}
+use Rattle.lists.proofs.Images.{getD-in}
+use Rattle.screening.specs.Tests.{shows}
 use borrow.Author.Needs.{needs}
-use Rattle.history.specs.Screen.{sharesStamp}
-use Rattle.screening.specs.Tests.{related, condition}
 use Rattle.screening.proofs.meets.Statement.{statement}
 use Rattle.screening.proofs.meets.Tie as tie
+
+mul-at : tie.Need-mul-at
+mul-at c = search needs
+
+shared-slice-read-at : tie.Need-shared-slice-read-at
+shared-slice-read-at c = search needs
+
+at-requires : tie.Need-at-requires
+at-requires c κs =
+    let a = c .before .before .before .before in
+    a .pre .0 .within _ (getD-in (a .args .rows .now) 0 (a .args .i) (omega arith))
 
 enum-told : tie.Need-enum-told
 enum-told c = search needs
@@ -19,67 +32,82 @@ wrong-span-requires c κs = search needs
 enum-told-3 : tie.Need-enum-told-3
 enum-told-3 c = search needs
 
-some-related-requires : tie.Need-some-related-requires
-some-related-requires c κs = search needs
+shared-requires : tie.Need-shared-requires
+shared-requires c κs = search needs
 
 enum-told-4 : tie.Need-enum-told-4
 enum-told-4 c = search needs
 
-rewrites-requires : tie.Need-rewrites-requires
-rewrites-requires c κs = search needs
+entry-requires : tie.Need-entry-requires
+entry-requires c κs = search needs
+
+twin-requires : tie.Need-twin-requires
+twin-requires c κs = search needs
 
 enum-told-5 : tie.Need-enum-told-5
 enum-told-5 c = search needs
 
-unwritten-requires : tie.Need-unwritten-requires
-unwritten-requires c κs = search needs
+entry-requires-2 : tie.Need-entry-requires-2
+entry-requires-2 c κs = search needs
+
+orphan-requires : tie.Need-orphan-requires
+orphan-requires c κs = search needs
 
 enum-told-6 : tie.Need-enum-told-6
 enum-told-6 c = search needs
 
-too-early-requires : tie.Need-too-early-requires
-too-early-requires c κs = search needs
+entry-requires-3 : tie.Need-entry-requires-3
+entry-requires-3 c κs = search needs
+
+early-requires : tie.Need-early-requires
+early-requires c κs = search needs
 
 returns : tie.Need-returns
-unfolding condition
-returns c = rw (c .before .enum-told .given .1) (c .wrong-kind .ensures)
+unfolding shows
+returns c = rw (c .before .enum-told .given .1) (c .wrong-kind .ensures ∙ rw (c .before .before .before .at .ensures))
 
 returns-2 : tie.Need-returns-2
-unfolding condition
-returns-2 c = rw (c .before .enum-told2 .given .1) (c .wrong-span .ensures)
+unfolding shows
+returns-2 c = rw (c .before .enum-told2 .given .1) (c .wrong-span .ensures ∙ rw (c .before .before .before .at .ensures))
 
 returns-3 : tie.Need-returns-3
-unfolding condition related sharesStamp
-returns-3 c = rw (c .before .enum-told3 .given .1) (c .some-related .ensures)
+unfolding shows
+returns-3 c = rw (c .before .enum-told3 .given .1) (c .shared .ensures)
 
 returns-4 : tie.Need-returns-4
-unfolding condition
-returns-4 c = rw (c .before .enum-told4 .given .1) (c .rewrites .ensures)
+unfolding shows
+returns-4 c = rw (c .before .before .enum-told4 .given .1) (c .twin .ensures ∙ rw (c .before .before .before .before .at .ensures, c .before .entry .ensures))
 
 returns-5 : tie.Need-returns-5
-unfolding condition
-returns-5 c = rw (c .before .enum-told5 .given .1) (c .unwritten .ensures)
+unfolding shows
+returns-5 c = rw (c .before .before .enum-told5 .given .1) (c .orphan .ensures ∙ rw (c .before .before .before .before .at .ensures, c .before .entry2 .ensures))
 
 returns-6 : tie.Need-returns-6
-unfolding condition
-returns-6 c = rw (c .before .enum-told6 .given .1) (c .too-early .ensures)
+unfolding shows
+returns-6 c = rw (c .before .before .enum-told6 .given .1) (c .early .ensures ∙ rw (c .before .before .before .before .at .ensures, c .before .entry3 .ensures))
 
 pub meets-spec : {M : Type 1} → statement M
 meets-spec =
     tie.close
     (tie.spec
+    mul-at
+    shared-slice-read-at
+    at-requires
     enum-told
     wrong-kind-requires
     enum-told-2
     wrong-span-requires
     enum-told-3
-    some-related-requires
+    shared-requires
     enum-told-4
-    rewrites-requires
+    entry-requires
+    twin-requires
     enum-told-5
-    unwritten-requires
+    entry-requires-2
+    orphan-requires
     enum-told-6
-    too-early-requires
+    entry-requires-3
+    early-requires
     returns
     returns-2
     returns-3

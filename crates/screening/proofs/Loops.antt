@@ -1,0 +1,139 @@
+-- The loops that gather the register's rows and list the stamps, with a law for each way through a turn.
+-- Assumes nothing.
+use Prim.Native.Nat.{ℕ, _+_, _*_, _≤_, _<_}
+use mathlib.Core.Path.{_≡_, refl, ap, ap₂, sym, _∙_}
+use mathlib.Core.Bool.{true, false}
+use mathlib.Core.Logic.{_⊎_, inl, inr}
+use mathlib.Core.List.{List, [], _∷_, _++_, map, append-nil}
+use native.Mathlib.Nat.{eq-or-lt-of-le}
+use native.Mathlib.Numerals.{add-one}
+use native.Mathlib.Omega.{arith}
+use lib.ListN.{length, getD, take, set, length-set, length-take}
+use lib.Seq.{take-suc-set, length-take-le, getD-set-same, getD-set-other}
+use Rattle.lists.specs.Lists.{keep, put, upTo, from}
+use Rattle.lists.proofs.Ranges.{up-to-more}
+use Rattle.lists.proofs.Images.{keep-append}
+use Rattle.history.specs.Table.{largestCount, rowCount, opAt, bears, rowsOf, history}
+use Rattle.history.specs.declared.Answer.{Answer}
+use Rattle.history.specs.Answer.{firstMet, passed}
+use Rattle.history.proofs.Rows.{in-rows, rows-rise, rows-few, history-count}
+use Rattle.writers.specs.Writers.{rowOp}
+use Rattle.screening.specs.Tests.{rowTests, Stamped, Listed, Ready}
+
+module _ (t : List ℕ) (register : ℕ) (list₀ : List ℕ) where
+  -- the first i rows are looked at, and m of them gathered
+  pub record Gathering (i m : ℕ) (list : List ℕ) : Type 0 where
+    pub few : m ≤ i
+    pub within : i ≤ rowCount t
+    pub long : length list ≡ length list₀
+    pub front : take m list ≡ keep (bears t register) (upTo i)
+
+  pub gather-none : Gathering 0 0 list₀
+  unfolding keep from
+  gather-none = record { few = omega arith; within = omega arith; long = refl; front = refl }
+
+  module _ (i m : ℕ) (list : List ℕ) (l : i < rowCount t) (g : Gathering i m list) where
+    keep-more : keep (bears t register) (upTo (i + 1)) ≡ keep (bears t register) (upTo i) ++ put (bears t register i) i []
+    unfolding keep
+    keep-more = rw (up-to-more i) (keep-append (bears t register) (upTo i) (i ∷ []))
+
+    pub gather-out : bears t register i ≡ false → Gathering (i + 1) m list
+    unfolding put
+    gather-out e =
+        record { few = omega (arith, g .few); within = omega arith; long = g .long; front = g .front ∙ sym (keep-more ∙ rw e (append-nil (keep (bears t register) (upTo i)))) }
+
+    pub gather-in : bears t register i ≡ true → m < length list → Gathering (i + 1) (m + 1) (set list m i)
+    unfolding put
+    gather-in e k =
+        record {
+          few = omega (arith, g .few);
+          within = omega arith;
+          long = length-set list m i ∙ g .long;
+          front = rw (add-one m) (take-suc-set list m i k) ∙ ap (λ (z : List ℕ). z ++ (i ∷ [])) (g .front) ∙ sym (keep-more ∙ rw e);
+        }
+
+  pub gather-end : (i m : ℕ) (list : List ℕ) → rowCount t ≤ i → rowCount t ≤ length list₀ → Gathering i m list → (m ≡ length (rowsOf t register)) × (take m list ≡ rowsOf t register)
+  unfolding rowsOf
+  gather-end i m list k r g = (sym (length-take-le m list (omega (arith, g .long, g .few, g .within))) ∙ ap length whole, whole)
+    where
+      whole : take m list ≡ keep (bears t register) (upTo (rowCount t))
+      whole = let e : i ≡ rowCount t = omega (arith, g .within) in g .front ∙ rw e
+
+module _ (t rows : List ℕ) where
+  -- the stamps of the first i rows are listed
+  pub record Stamping (i : ℕ) (out : List ℕ) : Type 0 where
+    pub within : i ≤ length rows
+    pub size : length out ≡ 2 * length rows
+    pub starts : (j : ℕ) → j < i → getD out (2 * j) 0 ≡ rowOp t rows j .start
+    pub finishes : (j : ℕ) → j < i → getD out (2 * j + 1) 0 ≡ rowOp t rows j .finish
+
+  pub stamp-none : (out : List ℕ) → length out ≡ 2 * length rows → Stamping 0 out
+  stamp-none out e = record { within = omega arith; size = e; starts = λ j l. absurd (omega arith); finishes = λ j l. absurd (omega arith) }
+
+  pub stamp-end : (i : ℕ) (out : List ℕ) → length rows ≤ i → Stamping i out → Stamped t rows out
+  stamp-end i out k g = record { size = g .size; starts = λ j l. g .starts j (omega arith); finishes = λ j l. g .finishes j (omega arith) }
+
+  module _ (i : ℕ) (out : List ℕ) (k : i < length rows) (g : Stamping i out) (start finish : ℕ) (s : start ≡ rowOp t rows i .start) (f : finish ≡ rowOp t rows i .finish) where
+    abbrev new : List ℕ
+    new = set (set out (2 * i) start) (2 * i + 1) finish
+
+    start-at : (j : ℕ) → (j ≡ i) ⊎ (j < i) → getD new (2 * j) 0 ≡ rowOp t rows j .start
+    start-at j (inl e) =
+        rw (e, getD-set-other (set out (2 * i) start) (2 * i + 1) (2 * i) finish 0 (λ q. omega arith), getD-set-same out (2 * i) start 0 (omega (arith, g .size))) s
+    start-at j (inr b) =
+        getD-set-other (set out (2 * i) start) (2 * i + 1) (2 * j) finish 0 (λ q. omega arith)
+        ∙ getD-set-other out (2 * i) (2 * j) start 0 (λ q. omega arith) ∙ g .starts j b
+
+    finish-at : (j : ℕ) → (j ≡ i) ⊎ (j < i) → getD new (2 * j + 1) 0 ≡ rowOp t rows j .finish
+    finish-at j (inl e) = rw (e, getD-set-same (set out (2 * i) start) (2 * i + 1) finish 0 (rw length-set (omega (arith, g .size)))) f
+    finish-at j (inr b) =
+        getD-set-other (set out (2 * i) start) (2 * i + 1) (2 * j + 1) finish 0 (λ q. omega arith)
+        ∙ getD-set-other out (2 * i) (2 * j + 1) start 0 (λ q. omega arith) ∙ g .finishes j b
+
+    pub stamp-more : Stamping (i + 1) new
+    stamp-more =
+        record {
+          within = omega arith;
+          size = length-set (set out (2 * i) start) (2 * i + 1) finish ∙ length-set out (2 * i) start ∙ g .size;
+          starts = λ j l. start-at j (eq-or-lt-of-le (omega arith));
+          finishes = λ j l. finish-at j (eq-or-lt-of-le (omega arith));
+        }
+
+-- What is gathered are the register's rows: they can be examined, and their operations are its history.
+module _ (t : List ℕ) (register m : ℕ) (rows : List ℕ) (few : rowCount t ≤ largestCount) (g : (m ≡ length (rowsOf t register)) × (take m rows ≡ rowsOf t register)) where
+  pub gathered-few : m ≤ largestCount
+  gathered-few = omega (arith, g .0, history-count t register, rows-few t register)
+
+  gathered-long : length (take m rows) ≡ m
+  gathered-long = ap length (g .1) ∙ sym (g .0)
+
+  gathered-listed : Listed t (take m rows)
+  gathered-listed =
+      record {
+        within = λ x k. omega (arith, in-rows t register (rw (g .1) at k) .exists);
+        rising = rw (g .1) (rows-rise t register);
+        few = omega (arith, gathered-long, gathered-few);
+      }
+
+  gathered-history : map (opAt t) (take m rows) ≡ history t register
+  unfolding history
+  gathered-history = ap (map (opAt t)) (g .1)
+
+  pub gathered-inside : m ≤ length rows
+  gathered-inside = omega (arith, gathered-long, length-take m rows)
+
+  pub gathered-size : m ≡ length (take m rows)
+  gathered-size = sym gathered-long
+
+  pub gathered-ready : (stamps firsts writer : List ℕ) → length stamps ≡ 2 * m → length firsts ≡ 2 * m → length writer ≡ m → Ready t (take m rows) stamps firsts writer
+  gathered-ready stamps firsts writer a b c =
+      record {
+        listed = gathered-listed;
+        room-stamps = omega (arith, gathered-long);
+        room-firsts = omega (arith, gathered-long);
+        room-writer = omega (arith, gathered-long);
+      }
+
+  pub gathered-answer : (r : Answer) → r ≡ firstMet (rowTests (map (opAt t) (take m rows))) (passed (length (take m rows)))
+      → r ≡ firstMet (rowTests (history t register)) (passed (length (history t register)))
+  gathered-answer r e = e ∙ ap₂ (λ h n. firstMet (rowTests h) (passed n)) gathered-history (gathered-long ∙ g .0 ∙ sym (history-count t register))
