@@ -1,45 +1,106 @@
--- The loop that counts the writes behind position q and before p: at position j, what is counted and what is left make the whole.
+-- Writes counted along an order: those before a position, and those between two.
 -- Assumes nothing.
-use Prim.Native.Nat.{ℕ, suc, _+_, _-_, _≤_, _<_}
-use mathlib.Core.Path.{_≡_, ap}
+use Prim.Native.Nat.{ℕ, zero, suc, _+_, _-_, _≤_, _<_}
+use mathlib.Core.Path.{_≡_, refl, sym, _∙_}
 use mathlib.Core.Bool.{Bool, true, false}
 use mathlib.Core.List.{List}
 use native.Mathlib.Numerals.{add-one}
 use native.Mathlib.Omega.{arith}
-use lib.ListN.{length, getD, take, drop}
-use lib.Seq.{drop-cons}
+use native.Mathlib.Decide.{decLt}
+use lib.ListN.{length, getD, set, take, drop, length-set}
+use lib.Seq.{drop-cons, getD-set-same, getD-set-other}
 use Rattle.lists.specs.Lists.{put, keep}
 use Rattle.history.specs.Table.{opAt, isWrite}
-use Rattle.history.proofs.Searches.{oneIf}
+use Rattle.history.proofs.Searches.{oneIf, one-if-small}
 use Rattle.orders.specs.Order.{writesBetween}
+use Rattle.orders.specs.Faults.{writesBefore, Counted}
 
+-- the writes from position j on and before p
 abbrev left : List ℕ → List ℕ → ℕ → ℕ → ℕ
 left t order p j = length (keep (λ i. isWrite (opAt t i)) (take (p - j) (drop j order)))
 
-pub record Counted (t order : List ℕ) (q p j writes : ℕ) : Type 0 where
-  pub small : writes ≤ j
-  pub all : writes + left t order p j ≡ writesBetween t order q p
+-- 1 where a write stands at the position
+abbrev pub oneAt : List ℕ → List ℕ → ℕ → ℕ
+oneAt t order j = oneIf (isWrite (opAt t (getD order j 0)))
 
-module _ (t order : List ℕ) (q p : ℕ) where
-  pub counted-none : Counted t order q p (q + 1) 0
-  unfolding writesBetween
-  counted-none = record { small = omega arith; all = rw (add-one q) (omega arith) }
-
-  left-cons : (j : ℕ) → j < p → p < length order → left t order p j ≡ oneIf (isWrite (opAt t (getD order j 0))) + left t order p (j + 1)
+module _ (t order : List ℕ) where
+  left-cons : (p j : ℕ) → j < p → p ≤ length order → left t order p j ≡ oneAt t order j + left t order p (suc j)
   unfolding keep put
-  left-cons j h k =
-      let e : p - j ≡ suc (p - (j + 1)) = omega arith in
+  left-cons p j h k =
+      let e : p - j ≡ suc (p - suc j) = omega arith in
       let l : j < length order = omega arith in
-      rw (e, drop-cons order j 0 l, ← add-one j) (go (isWrite (opAt t (getD order j 0))))
+      rw (e, drop-cons order j 0 l) (go (isWrite (opAt t (getD order j 0))))
     where
-      go : (b : Bool) → length (put b (getD order j 0) (keep (λ i. isWrite (opAt t i)) (take (p - (j + 1)) (drop (j + 1) order)))) ≡ oneIf b + left t order p (j + 1)
+      go : (b : Bool) → length (put b (getD order j 0) (keep (λ i. isWrite (opAt t i)) (take (p - suc j) (drop (suc j) order)))) ≡ oneIf b + left t order p (suc j)
       go true = omega arith
       go false = omega arith
 
-  pub counted-more : (j writes one : ℕ) → j < p → p < length order → one ≡ oneIf (isWrite (opAt t (getD order j 0))) → one ≤ 1 →
-      Counted t order q p j writes → Counted t order q p (j + 1) (writes + one)
-  counted-more j writes one h k e s c = record { small = omega arith; all = omega (arith, left-cons j h k) }
-
-  pub counted-end : (j writes : ℕ) → p ≤ j → Counted t order q p j writes → writes ≡ writesBetween t order q p
+  left-none : (p : ℕ) → left t order p p ≡ 0
   unfolding keep
-  counted-end j writes h c = let z : p - j ≡ 0 = omega arith in omega (arith, c .all, ap (λ (n : ℕ). length (keep (λ i. isWrite (opAt t i)) (take n (drop j order)))) z)
+  left-none p = let z : p - p ≡ 0 = omega arith in rw z
+
+  left-split : (n p q : ℕ) → n ≤ q → q ≤ p → p ≤ length order → left t order p (q - n) ≡ left t order q (q - n) + left t order p q
+  left-split zero p q a h k = let z : q - 0 ≡ q = omega arith in rw (z, left-none q) (omega arith)
+  left-split (suc n) p q a h k =
+      let s : suc (q - suc n) ≡ q - n = omega arith in
+      let ih = left-split n p q (omega arith) h k in
+      let l = left-cons p (q - suc n) (omega arith) k in
+      let m = left-cons q (q - suc n) (omega arith) (omega arith) in
+      let l' : left t order p (q - suc n) ≡ oneAt t order (q - suc n) + left t order p (q - n) = rw s at l in
+      let m' : left t order q (q - suc n) ≡ oneAt t order (q - suc n) + left t order q (q - n) = rw s at m in
+      omega arith
+
+  before-left : (p : ℕ) → writesBefore t order p ≡ left t order p 0
+  before-left p = let z : p - 0 ≡ p = omega arith in rw z
+
+  from-start : (p q : ℕ) → q ≤ p → p ≤ length order → writesBefore t order p ≡ writesBefore t order q + left t order p q
+  from-start p q h k =
+      let z : q - q ≡ 0 = omega arith in
+      omega (arith, before-left p, before-left q, rw z at (left-split q p q (omega arith) h k))
+
+  pub before-more : (p : ℕ) → p < length order → writesBefore t order (p + 1) ≡ writesBefore t order p + oneAt t order p
+  before-more p h =
+      rw (add-one p) (omega (arith, from-start (suc p) p (omega arith) (omega arith), left-cons (suc p) p (omega arith) (omega arith), left-none (suc p)))
+
+  pub before-between : (q p : ℕ) → q < p → p ≤ length order → writesBefore t order p ≡ writesBefore t order q + (oneAt t order q + writesBetween t order q p)
+  unfolding writesBetween
+  before-between q p h k = omega (arith, from-start p q (omega arith) k, left-cons p q h k)
+
+  pub before-none : writesBefore t order 0 ≡ 0
+  unfolding keep
+  before-none = refl
+
+-- The loop that counts: before position p the places are filled, and so many writes were met.
+pub record Counting (t order : List ℕ) (p writes : ℕ) (counts : List ℕ) : Type 0 where
+  pub long : length counts ≡ length order
+  pub within : p ≤ length order
+  pub small : writes ≤ p
+  pub met : writes ≡ writesBefore t order p
+  pub filled : (q : ℕ) → q < p → getD counts q 0 ≡ writesBefore t order q
+
+module _ (t order : List ℕ) where
+  pub counting-none : (counts : List ℕ) → length counts ≡ length order → Counting t order 0 0 counts
+  counting-none counts e = record { long = e; within = omega arith; small = omega arith; met = sym (before-none t order); filled = λ q h. absurd (omega arith) }
+
+  pub one-small : (p one : ℕ) → one ≡ oneAt t order p → one ≤ 1
+  one-small p one e = omega (arith, e, one-if-small (isWrite (opAt t (getD order p 0))))
+
+  pub counting-more : (p writes one : ℕ) (counts : List ℕ) → p < length order → one ≡ oneAt t order p → Counting t order p writes counts →
+      Counting t order (p + 1) (writes + one) (set counts p writes)
+  counting-more p writes one counts h e c =
+      record {
+        long = length-set counts p writes ∙ c .long;
+        within = omega arith;
+        small = omega (arith, c .small, one-small p one e);
+        met = omega (arith, c .met, before-more t order p h);
+        filled = λ q l. go q (decLt q p) l;
+      }
+    where
+      go : (q : ℕ) → Dec (q < p) → q < p + 1 → getD (set counts p writes) q 0 ≡ writesBefore t order q
+      go q (yes k) l = getD-set-other counts p q writes 0 (λ (e : q ≡ p). absurd (omega arith)) ∙ c .filled q k
+      go q (no n) l =
+          let same : q ≡ p = omega arith in
+          rw same (getD-set-same counts p writes 0 (omega (arith, c .long)) ∙ c .met)
+
+  pub counting-end : (p writes : ℕ) (counts : List ℕ) → length order ≤ p → Counting t order p writes counts → Counted t order counts
+  counting-end p writes counts h c = record { long = c .long; all = λ q l. c .filled q (omega arith) }

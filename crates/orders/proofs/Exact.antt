@@ -57,7 +57,7 @@ module _ (t : List ℕ) (register : ℕ) (order : List ℕ) where
     once-holds : (p q : ℕ) → p < q → q < length order → getD order p 0 ≢ getD order q 0
     once-holds p q l h same = told-false (told-repeats t order q) (parts q h .1) (p, below-in q l, same)
 
-    total-holds : missing t register order ≡ Nothing → TotalOrder t register order
+    pub total-holds : missing t register order ≡ Nothing → TotalOrder t register order
     total-holds e =
         record {
           rows = rows-hold;

@@ -2,6 +2,10 @@
 pub mod Positions
 pub mod Exact
 pub mod Same
+pub mod Growing
+pub mod Seen
+pub mod Latest
 pub mod Between
+pub mod Far
 pub mod NoRow
 pub mod Chain

@@ -5,25 +5,20 @@ use history::Row;
 use lists::Found;
 ghost use mathlib.Core.Path.{_≡_};
 ghost use mathlib.Core.Logic.{_↔_};
-ghost use mathlib.Core.List.{List};
-ghost use Prim.Native.Nat.{ℕ, _%_, _<_};
-ghost use lib.ListN.{length};
-ghost use Rattle.lists.specs.Lists.{any, upTo};
-ghost use Rattle.history.specs.Table.{opAt, Alike};
+ghost use mathlib.Core.Bool.{not, _||_};
+ghost use mathlib.Core.List.{List, map};
+ghost use Prim.Native.Nat.{ℕ, _%_, _<_, _≤_};
+ghost use lib.Dec.{ltb};
+ghost use lib.ListN.{length, getD};
+ghost use Rattle.history.specs.Table.{largestCount, rowCount, opAt, history, Alike};
+ghost use Rattle.history.specs.Screen.{Screened};
 ghost use Rattle.history.specs.Answer.{number};
 ghost use Rattle.history.proofs.Refusals.{orTest};
 ghost use Rattle.history.proofs.Searches.{oneIf};
 ghost use Rattle.history.specs.Table.{isWrite};
-ghost use Rattle.orders.specs.Order.{writesBetween};
-ghost use Rattle.orders.specs.Check.{sameRow, precedesAt, nearAt, isRow, misfits, tooFar, lowestAt, missing, check, Accepted};
-ghost use Rattle.orders.specs.Faults.{related, condition, codeOf, positionTest, missingTest};
-
-// How a position may stand to an earlier one.
-enum Earlier {
-    Same,
-    Preceded,
-    Near,
-}
+ghost use Rattle.writers.specs.Writers.{writerOf};
+ghost use Rattle.orders.specs.Check.{isRow, misfits, late, tooFar, lowestAt, check, Accepted};
+ghost use Rattle.orders.specs.Faults.{condition, codeOf, positionTest, missingTest, Ordered, Before, larger, Counted};
 
 // What may be wrong with a position.
 enum Fault {
@@ -63,22 +58,74 @@ fn is_row(table: &[u64], register: u64, row: u64) -> bool
     false
 }
 
-fn same_row(list: &[u64], p: usize, q: usize) -> bool
-    requires { ⌜ (p < length (now list)) × (q < length (now list)) ⌝ }
-    ensures { λ r. ⌜ r ≡ sameRow (now (list .entry)) p q ⌝ }
+// Whether a row is none of the register's or is marked as seen.
+fn unfit(table: &[u64], register: u64, row: u64, seen: &[u64]) -> bool
+    requires { ⌜ rowCount (now table) ≤ length (now seen) ⌝ }
+    ensures { λ r. ⌜ r ≡ (not (isRow (now (table .entry)) register row) || ltb 0 (getD (now (seen .entry)) row 0)) ⌝ }
 {
-    list[q] == list[p]
+    if is_row(table, register, row) {
+        let at = row as usize;
+        return 0 < seen[at];
+    }
+    true
 }
 
-fn precedes_at(table: &[u64], list: &[u64], p: usize, q: usize) -> bool
-    requires { ⌜ (length (now table) % 5 ≡ 0) × (p < length (now list)) × (q < length (now list)) ⌝ }
-    ensures { λ r. ⌜ r ≡ precedesAt (now (table .entry)) (now (list .entry)) p q ⌝ }
+// The lowest position that holds no row of the register or repeats one, with a mark for each row of the table.
+fn lowest_misfit_with(table: &[u64], register: u64, list: &[u64], seen: &mut [u64]) -> Found
+    requires { ⌜ rowCount (now table) ≤ length (now seen) ⌝ }
+    requires { ⌜ ((i : ℕ) → i < length (now seen) → getD (now seen) i 0 ≡ 0) ⌝ }
+    ensures { λ r. ⌜ r ≡ lowestAt (misfits (now (table .entry)) register (now (list .entry))) (now (list .entry)) ⌝ }
 {
-    operation(table, list[p]).precedes(operation(table, list[q]))
+    let mut p = 0;
+    while p < list.len() {
+        let row = list[p];
+        if unfit(table, register, row, seen) {
+            return Found::At(p);
+        }
+        let at = row as usize;
+        seen[at] = 1;
+        p += 1;
+    }
+    Found::Nothing
+}
+
+fn lowest_misfit(table: &[u64], register: u64, list: &[u64]) -> Found
+    requires { ⌜ rowCount (now table) ≤ largestCount ⌝ }
+    ensures { λ r. ⌜ r ≡ lowestAt (misfits (now (table .entry)) register (now (list .entry))) (now (list .entry)) ⌝ }
+{
+    let mut seen = [0u64; Row::LARGEST_COUNT];
+    lowest_misfit_with(table, register, list, &mut seen)
+}
+
+fn larger(a: u64, b: u64) -> u64
+    ensures { λ r. ⌜ r ≡ larger a b ⌝ }
+{
+    if a < b {
+        return b;
+    }
+    a
+}
+
+// The lowest position whose row precedes one listed earlier: it finishes before the largest start so far.
+fn lowest_late(table: &[u64], list: &[u64]) -> Found
+    requires { ⌜ length (now table) % 5 ≡ 0 ⌝ }
+    ensures { λ r. ⌜ r ≡ lowestAt (late (now (table .entry)) (now (list .entry))) (now (list .entry)) ⌝ }
+{
+    let mut latest: u64 = 0;
+    let mut p = 0;
+    while p < list.len() {
+        let op = operation(table, list[p]);
+        if op.finish < latest {
+            return Found::At(p);
+        }
+        latest = larger(latest, op.start);
+        p += 1;
+    }
+    Found::Nothing
 }
 
 // 1 where the row is a write, else 0.
-fn one_write(table: &[u64], row: u64) -> usize
+fn one_write(table: &[u64], row: u64) -> u64
     requires { ⌜ length (now table) % 5 ≡ 0 ⌝ }
     ensures { λ r. ⌜ r ≡ oneIf (isWrite (opAt (now (table .entry)) row)) ⌝ }
 {
@@ -88,100 +135,95 @@ fn one_write(table: &[u64], row: u64) -> usize
     0
 }
 
-// The number of writes at the positions behind q and before p.
-fn writes_between(table: &[u64], list: &[u64], q: usize, p: usize) -> usize
-    requires { ⌜ (length (now table) % 5 ≡ 0) × (p < length (now list)) × (q < length (now list)) ⌝ }
-    ensures { λ r. ⌜ r ≡ writesBetween (now (table .entry)) (now (list .entry)) q p ⌝ }
+// The number of writes before each position.
+fn count_writes(table: &[u64], list: &[u64], counts: &mut [u64])
+    requires { ⌜ length (now table) % 5 ≡ 0 ⌝ }
+    requires { ⌜ length (now counts) ≡ length (now list) ⌝ }
+    ensures { λ _. ⌜ Counted (now (table .entry)) (now (list .entry)) (now (counts .exit)) ⌝ }
 {
-    let mut writes: usize = 0;
-    let mut j = q + 1;
-    while j < p {
-        writes += one_write(table, list[j]);
-        j += 1;
-    }
-    writes
-}
-
-fn near_at(table: &[u64], k: u64, list: &[u64], p: usize, q: usize) -> bool
-    requires { ⌜ (length (now table) % 5 ≡ 0) × (p < length (now list)) × (q < length (now list)) ⌝ }
-    ensures { λ r. ⌜ r ≡ nearAt k (now (table .entry)) (now (list .entry)) p q ⌝ }
-{
-    if operation(table, list[q]).dictates(operation(table, list[p])) {
-        return (writes_between(table, list, q, p) as u64) < k;
-    }
-    false
-}
-
-fn related(table: &[u64], k: u64, list: &[u64], earlier: Earlier, p: usize, q: usize) -> bool
-    requires { ⌜ (length (now table) % 5 ≡ 0) × (p < length (now list)) × (q < length (now list)) ⌝ }
-    ensures { λ r. ⌜ r ≡ related earlier k (now (table .entry)) (now (list .entry)) p q ⌝ }
-{
-    match earlier {
-        Earlier::Same => same_row(list, p, q),
-        Earlier::Preceded => precedes_at(table, list, p, q),
-        Earlier::Near => near_at(table, k, list, p, q),
+    let mut writes: u64 = 0;
+    let mut p: usize = 0;
+    while p < list.len() {
+        counts[p] = writes;
+        writes += one_write(table, list[p]);
+        p += 1;
     }
 }
 
-// Whether position p stands so to some earlier one.
-fn some_earlier(table: &[u64], k: u64, list: &[u64], earlier: Earlier, p: usize) -> bool
-    requires { ⌜ (length (now table) % 5 ≡ 0) × (p < length (now list)) ⌝ }
-    ensures { λ r. ⌜ r ≡ any (related earlier k (now (table .entry)) (now (list .entry)) p) (upTo p) ⌝ }
+// Whether position p holds a read that does not follow its write within k, by the position of each row's write and the writes before each.
+fn too_far(table: &[u64], k: u64, list: &[u64], writer: &[u64], counts: &[u64], p: usize) -> bool
+    requires { ⌜ Ordered (now table) (now list) ⌝ }
+    requires { ⌜ now writer ≡ map (writerOf (now table) (now list)) (now list) ⌝ }
+    requires { ⌜ Counted (now table) (now list) (now counts) ⌝ }
+    requires { ⌜ p < length (now list) ⌝ }
+    ensures { λ r. ⌜ r ≡ tooFar k (now (table .entry)) (now (list .entry)) p ⌝ }
 {
-    let mut q = 0;
-    while q < p {
-        if related(table, k, list, earlier, p, q) {
-            return true;
-        }
-        q += 1;
+    if !operation(table, list[p]).is_read() {
+        return false;
     }
-    false
-}
-
-fn misfits(table: &[u64], register: u64, list: &[u64], p: usize) -> bool
-    requires { ⌜ (length (now table) % 5 ≡ 0) × (p < length (now list)) ⌝ }
-    ensures { λ r. ⌜ r ≡ misfits (now (table .entry)) register (now (list .entry)) p ⌝ }
-{
-    if is_row(table, register, list[p]) {
-        return some_earlier(table, 0, list, Earlier::Same, p);
+    let q = writer[p] as usize;
+    if q < p {
+        return k < counts[p] - counts[q];
     }
     true
 }
 
-fn too_far(table: &[u64], k: u64, list: &[u64], p: usize) -> bool
-    requires { ⌜ (length (now table) % 5 ≡ 0) × (p < length (now list)) ⌝ }
-    ensures { λ r. ⌜ r ≡ tooFar k (now (table .entry)) (now (list .entry)) p ⌝ }
-{
-    if operation(table, list[p]).is_read() {
-        return !some_earlier(table, k, list, Earlier::Near, p);
-    }
-    false
-}
-
-fn faulty(table: &[u64], register: u64, k: u64, list: &[u64], fault: Fault, p: usize) -> bool
-    requires { ⌜ (length (now table) % 5 ≡ 0) × (p < length (now list)) ⌝ }
-    ensures { λ r. ⌜ r ≡ condition fault (now (table .entry)) register k (now (list .entry)) p ⌝ }
-{
-    match fault {
-        Fault::Misfit => misfits(table, register, list, p),
-        Fault::Late => some_earlier(table, k, list, Earlier::Preceded, p),
-        Fault::TooFar => too_far(table, k, list, p),
-    }
-}
-
-// The lowest position with the fault.
-fn lowest_at(table: &[u64], register: u64, k: u64, list: &[u64], fault: Fault) -> Found
-    requires { ⌜ length (now table) % 5 ≡ 0 ⌝ }
-    ensures { λ r. ⌜ r ≡ lowestAt (condition fault (now (table .entry)) register k (now (list .entry))) (now (list .entry)) ⌝ }
+// The lowest position with such a read.
+fn first_too_far(table: &[u64], k: u64, list: &[u64], writer: &[u64], counts: &[u64]) -> Found
+    requires { ⌜ Ordered (now table) (now list) ⌝ }
+    requires { ⌜ now writer ≡ map (writerOf (now table) (now list)) (now list) ⌝ }
+    requires { ⌜ Counted (now table) (now list) (now counts) ⌝ }
+    ensures { λ r. ⌜ r ≡ lowestAt (tooFar k (now (table .entry)) (now (list .entry))) (now (list .entry)) ⌝ }
 {
     let mut p = 0;
     while p < list.len() {
-        if faulty(table, register, k, list, fault, p) {
+        if too_far(table, k, list, writer, counts, p) {
             return Found::At(p);
         }
         p += 1;
     }
     Found::Nothing
+}
+
+// The same; the two slices have a place for each position.
+fn lowest_too_far_with(
+    table: &[u64],
+    k: u64,
+    list: &[u64],
+    writer: &mut [u64],
+    counts: &mut [u64],
+) -> Found
+    requires { ⌜ Ordered (now table) (now list) ⌝ }
+    requires { ⌜ length (now writer) ≡ length (now list) ⌝ }
+    requires { ⌜ length (now counts) ≡ length (now list) ⌝ }
+    ensures { λ r. ⌜ r ≡ lowestAt (tooFar k (now (table .entry)) (now (list .entry))) (now (list .entry)) ⌝ }
+{
+    writers::writers(table, list, writer);
+    count_writes(table, list, counts);
+    first_too_far(table, k, list, writer, counts)
+}
+
+fn lowest_too_far(table: &[u64], k: u64, list: &[u64]) -> Found
+    requires { ⌜ Ordered (now table) (now list) ⌝ }
+    ensures { λ r. ⌜ r ≡ lowestAt (tooFar k (now (table .entry)) (now (list .entry))) (now (list .entry)) ⌝ }
+{
+    let n = list.len();
+    let mut writer = [0u64; Row::LARGEST_COUNT];
+    let mut counts = [0u64; Row::LARGEST_COUNT];
+    lowest_too_far_with(table, k, list, &mut writer[..n], &mut counts[..n])
+}
+
+// The lowest position with the fault.
+fn lowest_at(table: &[u64], register: u64, k: u64, list: &[u64], fault: Fault) -> Found
+    requires { ⌜ Screened (length (now table)) (history (now table) register) ⌝ }
+    requires { ⌜ Before fault (now table) (now list) ⌝ }
+    ensures { λ r. ⌜ r ≡ lowestAt (condition fault (now (table .entry)) register k (now (list .entry))) (now (list .entry)) ⌝ }
+{
+    match fault {
+        Fault::Misfit => lowest_misfit(table, register, list),
+        Fault::Late => lowest_late(table, list),
+        Fault::TooFar => lowest_too_far(table, k, list),
+    }
 }
 
 fn code(fault: Fault) -> u64
@@ -203,7 +245,8 @@ fn or_fault(
     answer: Answer,
     fault: Fault,
 ) -> Answer
-    requires { ⌜ length (now table) % 5 ≡ 0 ⌝ }
+    requires { ⌜ Screened (length (now table)) (history (now table) register) ⌝ }
+    requires { ⌜ (answer .code ≡ 0 → Before fault (now table) (now list)) ⌝ }
     ensures { λ r. ⌜ r ≡ orTest answer (positionTest (now (table .entry)) register k (now (list .entry)) fault) ⌝ }
 {
     if answer.code != 0 {

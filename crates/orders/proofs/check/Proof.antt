@@ -2,7 +2,7 @@
 use mathlib.Core.Path.{_≡_, sym, ap, _∙_}
 use borrow.Author.Needs.{needs}
 use Rattle.orders.specs.Check.{check}
-use Rattle.orders.proofs.Chain.{check-refused, check-past, whole-table, promises}
+use Rattle.orders.proofs.Chain.{check-refused, check-past, screened-past, ordered-past, promises}
 use Rattle.orders.proofs.check.Statement.{statement}
 use Rattle.orders.proofs.check.Tie as tie
 
@@ -18,7 +18,7 @@ returns c =
 or-fault-requires : tie.Need-or-fault-requires
 or-fault-requires c κs =
     let a = c .before .before .before .before .before .args in
-    whole-table (a .table .now) (a .register) (a .k) (a .list .now) (c .before .before .examine .result) (c .before .before .examine .ensures) (c .if1 .left)
+    (screened-past (a .table .now) (a .register) (a .k) (a .list .now) (c .before .before .examine .result) (c .before .before .examine .ensures) (c .if1 .left), λ _. tt)
 
 or-missing-requires : tie.Need-or-missing-requires
 or-missing-requires c κs = search needs
@@ -27,13 +27,14 @@ or-fault-requires-2 : tie.Need-or-fault-requires-2
 or-fault-requires-2 c κs =
     let e = c .before .before .before .before in
     let a = e .before .before .before .args in
-    whole-table (a .table .now) (a .register) (a .k) (a .list .now) (e .examine .result) (e .examine .ensures) (c .before .before .if1 .left)
+    (screened-past (a .table .now) (a .register) (a .k) (a .list .now) (e .examine .result) (e .examine .ensures) (c .before .before .if1 .left), λ _. tt)
 
 or-fault-requires-3 : tie.Need-or-fault-requires-3
 or-fault-requires-3 c κs =
     let e = c .before .before .before .before .before in
     let a = e .before .before .before .args in
-    whole-table (a .table .now) (a .register) (a .k) (a .list .now) (e .examine .result) (e .examine .ensures) (c .before .before .before .if1 .left)
+    let s = screened-past (a .table .now) (a .register) (a .k) (a .list .now) (e .examine .result) (e .examine .ensures) (c .before .before .before .if1 .left) in
+    (s, ordered-past (a .table .now) (a .register) (a .k) (a .list .now) s (c .or-fault2 .result) (rw (c .or-fault2 .ensures, c .before .or-missing .ensures, c .before .before .or-fault .ensures, e .examine .ensures)))
 
 returns-2 : tie.Need-returns-2
 returns-2 c =

@@ -1,54 +1,49 @@
--- The loop looks at the positions in sequence: the lowest of the whole is the lowest from here on (`Scan`).
-use Prim.Native.Nat.{_-_}
-use mathlib.Core.Path.{refl, sym, _∙_}
-use native.Mathlib.Omega.{arith}
-use lib.ListN.{length}
-use Rattle.lists.specs.Lists.{first}
-use Rattle.lists.proofs.Scans.{Scan, scan-none, scan-hit, scan-more, scan-end}
-use Rattle.lists.proofs.Members.{first-cons-hit, first-cons-miss}
-use Rattle.orders.specs.Check.{lowestAt}
+-- Each fault has a search of its own.
 use Rattle.orders.specs.Faults.{condition}
+use borrow.Author.Needs.{needs}
 use Rattle.orders.proofs.lowest_at.Statement.{statement}
 use Rattle.orders.proofs.lowest_at.Tie as tie
 
-abbrev Inv-loop : tie.InvT-loop
-Inv-loop table register k list fault p₀ p = Scan (lowestAt (condition fault table register k list) list) (first (λ q. q) (condition fault table register k list)) (length list) p
+enum-told : tie.Need-enum-told
+enum-told c = search needs
 
-abbrev μ-loop : tie.MeasureT-loop
-μ-loop table register k list fault p₀ p = length list - p
+lowest-misfit-requires : tie.Need-lowest-misfit-requires
+lowest-misfit-requires c κs = search needs
 
-loop-holds : tie.Need-loop-holds Inv-loop μ-loop
-loop-holds c = scan-none _ _ refl
+enum-told-2 : tie.Need-enum-told-2
+enum-told-2 c = search needs
 
-faulty-requires : tie.Need-faulty-requires Inv-loop μ-loop
-faulty-requires c κs = (c .before .before .before .before .pre, omega arith)
+lowest-late-requires : tie.Need-lowest-late-requires
+lowest-late-requires c κs = search needs
 
-returns : tie.Need-returns Inv-loop μ-loop
-returns c = sym (scan-hit _ _ _ _ (omega arith) (c .before .before .before .loop .inv) (λ r. first-cons-hit _ _ r _ (sym (c .before .faulty .ensures) ∙ c .if1 .taken)))
+enum-told-3 : tie.Need-enum-told-3
+enum-told-3 c = search needs
 
-add-p : tie.Need-add-p Inv-loop μ-loop
-add-p c = omega arith
+lowest-too-far-requires : tie.Need-lowest-too-far-requires
+lowest-too-far-requires c κs = rw (c .enum-told3 .given .1) at (c .before .before .before .before .pre .1)
 
-loop-less : tie.Need-loop-less Inv-loop μ-loop
-loop-less c = omega arith
+returns : tie.Need-returns
+unfolding condition
+returns c = rw (c .before .enum-told .given .1) (c .lowest-misfit .ensures)
 
-loop-again : tie.Need-loop-again Inv-loop μ-loop
-loop-again c = scan-more _ _ _ _ (omega arith) (c .before .before .before .loop .inv) (λ r. first-cons-miss _ _ r _ (sym (c .before .faulty .ensures) ∙ c .if1 .left))
+returns-2 : tie.Need-returns-2
+unfolding condition
+returns-2 c = rw (c .before .enum-told2 .given .1) (c .lowest-late .ensures)
 
-returns-2 : tie.Need-returns-2 Inv-loop μ-loop
-unfolding first
-returns-2 c = sym (scan-end _ _ _ (omega arith) (c .before .loop .inv))
+returns-3 : tie.Need-returns-3
+unfolding condition
+returns-3 c = rw (c .before .enum-told3 .given .1) (c .lowest-too-far .ensures)
 
 pub lowest-at-spec : {M : Type 1} → statement M
 lowest-at-spec =
     tie.close
     (tie.spec
-    Inv-loop
-    μ-loop
-    loop-holds
-    faulty-requires
+    enum-told
+    lowest-misfit-requires
+    enum-told-2
+    lowest-late-requires
+    enum-told-3
+    lowest-too-far-requires
     returns
-    add-p
-    loop-less
-    loop-again
-    returns-2)
+    returns-2
+    returns-3)

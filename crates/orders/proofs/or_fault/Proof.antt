@@ -12,7 +12,7 @@ unfolding orTest
 returns c = rw (ne-eqb (c .before .before .before .before .args .answer .code) 0 (c .if1 .taken))
 
 lowest-at-requires : tie.Need-lowest-at-requires
-lowest-at-requires c κs = search needs
+lowest-at-requires c κs = (c .before .before .before .before .pre .0, c .before .before .before .before .pre .1 (c .if1 .left))
 
 enum-known-p : tie.Need-enum-known-p
 enum-known-p c = search needs

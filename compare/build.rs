@@ -1,0 +1,14 @@
+//! Links the proved library: the folder of libhost.a is target/staticlib of the repository, or VALGRIST_LIB.
+use std::env;
+use std::path::PathBuf;
+
+fn main() {
+    println!("cargo:rerun-if-env-changed=VALGRIST_LIB");
+    let folder = match env::var_os("VALGRIST_LIB") {
+        Some(folder) => PathBuf::from(folder),
+        None => PathBuf::from(env::var_os("CARGO_MANIFEST_DIR").expect("cargo names the package's folder")).join("../target/staticlib"),
+    };
+    println!("cargo:rerun-if-changed={}", folder.join("libhost.a").display());
+    println!("cargo:rustc-link-search=native={}", folder.display());
+    println!("cargo:rustc-link-lib=static=host");
+}

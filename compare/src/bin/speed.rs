@@ -1,0 +1,122 @@
+//! The benchmark: the proved library against the plain implementation, in one process on the same bytes.
+//! `speed [MILLISECONDS]`: how long each batch of calls takes at least (default 2); the best of nine batches counts, taken in turn.
+
+use std::hint::black_box;
+use std::time::{Duration, Instant};
+
+use compare::histories::{self, file, file_of, scramble, spread};
+use compare::random::Random;
+use compare::{library, mark};
+
+const SIZES: [usize; 3] = [64, 256, 1024];
+const BATCHES: usize = 9;
+
+/// A file, and the registers that one timed turn marks.
+struct Case {
+    bytes: Vec<u8>,
+    registers: Vec<u64>,
+}
+
+type Maker = fn(usize, &mut Random) -> Case;
+
+fn one(rows: Vec<compare::file::Row>) -> Case {
+    Case { bytes: file_of(1, &rows), registers: vec![1] }
+}
+
+fn wild(count: usize, random: &mut Random) -> Case {
+    let mut rows = histories::quorum(count, random);
+    spread(&mut rows, random);
+    scramble(&mut rows, random);
+    random.shuffle(&mut rows);
+    one(rows)
+}
+
+fn sixty(count: usize, random: &mut Random) -> Case {
+    let mut rows = Vec::with_capacity(count);
+    for register in 0..60 {
+        let share = (count * (register + 1)) / 60 - (count * register) / 60;
+        rows.extend(histories::quorum(share, random).into_iter().map(|row| (register as u64 + 1, row)));
+    }
+    rows.sort_by_key(|(_, row)| row.start);
+    Case { bytes: file(&rows), registers: (1..=60).collect() }
+}
+
+const FAMILIES: [(&str, Maker); 8] = [
+    ("1 quorum-like", |count, random| one(histories::quorum(count, random))),
+    ("2 all concurrent", |count, random| one(histories::concurrent(count, random))),
+    ("3 epochs that fail late", |count, random| one(histories::late_failures(count, random))),
+    ("4 many chunks", |count, random| one(histories::chunks(count, random))),
+    ("5a stale at the end", |count, random| one(histories::stale_at(true, count, random))),
+    ("5b stale at the start", |count, random| one(histories::stale_at(false, count, random))),
+    ("6 sixty registers, all", sixty),
+    ("7 as 1, wild", wild),
+];
+
+type Mark = fn(&[u8], u64, u64) -> u64;
+
+/// A sum of codes, so that no call is left out.
+fn turn(call: Mark, case: &Case, question: u64) -> u64 {
+    case.registers.iter().map(|&register| call(black_box(&case.bytes), register, question)).sum()
+}
+
+fn batch(call: Mark, case: &Case, question: u64, turns: u32) -> Duration {
+    let begun = Instant::now();
+    for _ in 0..turns {
+        black_box(turn(call, case, question));
+    }
+    begun.elapsed()
+}
+
+/// So many turns as take the least time of a batch.
+fn turns(call: Mark, case: &Case, question: u64, least: Duration) -> u32 {
+    let mut turns = 1;
+    while turns < 1 << 20 && batch(call, case, question, turns) < least {
+        turns *= 2;
+    }
+    turns
+}
+
+/// The best nanoseconds of a turn, of both.
+fn times(case: &Case, question: u64, least: Duration) -> [f64; 2] {
+    let calls: [Mark; 2] = [library::mark, mark];
+    let counts = calls.map(|call| turns(call, case, question, least));
+    let mut best = [f64::INFINITY; 2];
+    for _ in 0..BATCHES {
+        for which in 0..2 {
+            let taken = batch(calls[which], case, question, counts[which]).as_nanos() as f64 / f64::from(counts[which]);
+            best[which] = best[which].min(taken);
+        }
+    }
+    best
+}
+
+fn main() {
+    let least = Duration::from_millis(std::env::args().nth(1).map_or(2, |text| text.parse().expect("milliseconds")));
+    println!("{:<24} {:>5} {:>2} {:>5} {:>12} {:>12} {:>8}", "family", "rows", "q", "code", "ns valgrist", "ns plain", "ratio");
+    let mut growth = Vec::new();
+    let mut differences = 0;
+    for (name, make) in FAMILIES {
+        let cases = SIZES.map(|size| make(size, &mut Random::new(7)));
+        for question in 1..=3 {
+            let mut found = Vec::new();
+            for (case, size) in cases.iter().zip(SIZES) {
+                for &register in &case.registers {
+                    differences += u64::from(library::mark(&case.bytes, register, question) != mark(&case.bytes, register, question));
+                }
+                let [ours, plain] = times(case, question, least);
+                let code = mark(&case.bytes, case.registers[0], question);
+                println!("{name:<24} {size:>5} {question:>2} {code:>5} {ours:>12.0} {plain:>12.0} {:>8.2}", ours / plain);
+                found.push([ours, plain]);
+            }
+            growth.push((name, question, found[2][0] / found[1][0], found[2][1] / found[1][1]));
+        }
+    }
+    println!("\ngrowth of the time from 256 to 1,024 rows\n{:<24} {:>2} {:>9} {:>9}", "family", "q", "valgrist", "plain");
+    for (name, question, ours, plain) in growth {
+        println!("{name:<24} {question:>2} {ours:>9.1} {plain:>9.1}");
+    }
+    println!("\ndifferent codes: {differences}");
+    if differences > 0 {
+        std::process::exit(1);
+    }
+}

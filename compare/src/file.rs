@@ -1,0 +1,68 @@
+//! History files: records of 36 bytes, a length and a kind of two bytes each, then register, value, start and finish.
+
+use crate::codes::{CUT_RECORD, OVERFULL, STRANGE_RECORD};
+
+pub const RECORD: usize = 36;
+pub const MOST_ROWS: usize = 1024;
+const LENGTH: u16 = 34;
+pub const WRITE: u16 = 1;
+pub const READ: u16 = 2;
+
+/// A row of the register asked for, with its number in the file.
+#[derive(Clone, Copy, Debug)]
+pub struct Row {
+    pub number: u32,
+    pub write: bool,
+    pub value: u64,
+    pub start: u64,
+    pub finish: u64,
+}
+
+fn u16_at(bytes: &[u8], at: usize) -> u16 {
+    u16::from_le_bytes([bytes[at], bytes[at + 1]])
+}
+
+fn u64_at(bytes: &[u8], at: usize) -> u64 {
+    u64::from_le_bytes(bytes[at..at + 8].try_into().expect("eight bytes"))
+}
+
+/// The rows of the register in a file that is sound as a whole, or the code of its refusal.
+pub fn rows_of(bytes: &[u8], register: u64) -> Result<Vec<Row>, u64> {
+    let mut rows = Vec::with_capacity((bytes.len() / RECORD).min(MOST_ROWS));
+    let mut rest = bytes;
+    let mut number = 0;
+    while !rest.is_empty() {
+        if rest.len() == 1 {
+            return Err(CUT_RECORD);
+        }
+        if u16_at(rest, 0) != LENGTH {
+            return Err(STRANGE_RECORD);
+        }
+        if rest.len() < RECORD {
+            return Err(CUT_RECORD);
+        }
+        let (record, after) = rest.split_at(RECORD);
+        let kind = u16_at(record, 2);
+        if kind != WRITE && kind != READ {
+            return Err(STRANGE_RECORD);
+        }
+        if number as usize == MOST_ROWS {
+            return Err(OVERFULL);
+        }
+        if u64_at(record, 4) == register {
+            rows.push(Row { number, write: kind == WRITE, value: u64_at(record, 12), start: u64_at(record, 20), finish: u64_at(record, 28) });
+        }
+        number += 1;
+        rest = after;
+    }
+    Ok(rows)
+}
+
+/// One record at the end of a file.
+pub fn push_record(bytes: &mut Vec<u8>, register: u64, row: &Row) {
+    bytes.extend_from_slice(&LENGTH.to_le_bytes());
+    bytes.extend_from_slice(&(if row.write { WRITE } else { READ }).to_le_bytes());
+    for number in [register, row.value, row.start, row.finish] {
+        bytes.extend_from_slice(&number.to_le_bytes());
+    }
+}

@@ -1,0 +1,70 @@
+//! The marking of register histories in plain Rust, written from the scope document and the paper alone, to compare the proved library with:
+//! `differ` compares the codes of random and damaged files, `speed` the times.
+
+pub mod codes;
+pub mod damage;
+pub mod file;
+mod fzf;
+pub mod histories;
+mod lbt;
+pub mod library;
+pub mod order;
+pub mod random;
+pub mod register;
+pub mod shapes;
+mod zones;
+
+use codes::{FRESH, NO_SUCH_QUESTION, SPENT, STALE};
+use register::Register;
+
+/// The trials of LBT that the C host's call allows.
+pub const ALLOWANCE: u64 = 524_800;
+
+/// What a method finds: an order of the operations (by position in the register), none, or that LBT may not go on.
+pub enum Found {
+    Order(Vec<u32>),
+    Nothing,
+    Spent,
+}
+
+/// The mark of a register: the code, and where it is fresh the order, as row numbers of the file.
+pub struct Marking {
+    pub code: u64,
+    pub order: Vec<u32>,
+}
+
+/// The code of the file's refusal, else of the marking of the register by the question.
+pub fn mark(bytes: &[u8], register: u64, question: u64) -> u64 {
+    marking(bytes, register, question).code
+}
+
+/// The same with the order.
+pub fn marking(bytes: &[u8], register: u64, question: u64) -> Marking {
+    match decide(bytes, register, question) {
+        Ok(order) => Marking { code: FRESH, order },
+        Err(code) => Marking { code, order: Vec::new() },
+    }
+}
+
+fn decide(bytes: &[u8], register: u64, question: u64) -> Result<Vec<u32>, u64> {
+    let rows = file::rows_of(bytes, register)?;
+    if !(1..=3).contains(&question) {
+        return Err(NO_SUCH_QUESTION);
+    }
+    let register = Register::screened(&rows)?;
+    let found = match question {
+        1 => zones::search(&register),
+        2 => lbt::search(&register, ALLOWANCE),
+        _ => fzf::search(&register),
+    };
+    match found {
+        Found::Order(mut order) => {
+            for place in &mut order {
+                *place = register.ops[*place as usize].row;
+            }
+            Ok(order)
+        }
+        Found::Nothing => Err(STALE),
+        Found::Spent => Err(SPENT),
+    }
+}

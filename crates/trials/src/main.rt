@@ -1,0 +1,345 @@
+// Small random histories: the mark of each question against a trial of all orders, each judged by the order check. A line for each question counts
+// the histories, the marks and the differences; held to the file stdout.
+use history::Answer;
+use history::Op;
+use history::Row;
+use libc::STDOUT_FILENO;
+ghost use Prim.Native.Nat.{_+_, _*_, _%_, _<_, _≤_};
+ghost use mathlib.Core.Path.{_≡_};
+ghost use lib.ListN.{length};
+
+const REGISTER: u64 = 7;
+
+const HISTORIES: u64 = 10000;
+
+// Twice six less one: always enough for LBT.
+const TRIALS: u64 = 11;
+
+// A history has up to six rows, so that there are at most 720 orders.
+const ROWS: usize = 6;
+
+// A number of a run of them, from the one before.
+fn next(x: u64) -> u64 {
+    (x % 2147483648 * 1103515245 + 12345) % 2147483648
+}
+
+// A remainder is below what divides.
+fn remainder(x: u64, bound: u64) -> u64
+    requires { ⌜ 0 < bound ⌝ }
+    ensures { λ r. ⌜ r < bound ⌝ }
+{
+    x % bound
+}
+
+// A number below a bound, from one of the run, whose lower bits repeat soon.
+fn pick(x: u64, bound: u64) -> u64
+    requires { ⌜ 0 < bound ⌝ }
+    ensures { λ r. ⌜ r < bound ⌝ }
+{
+    remainder(x / 65536, bound)
+}
+
+// Up to six rows, more often many than few.
+fn size(x: u64) -> usize
+    ensures { λ r. ⌜ r ≤ 6 ⌝ }
+{
+    let bound = 1 + pick(x, 7);
+    ROWS - pick(next(x), bound) as usize
+}
+
+// The first operation writes, and the later one is the more often it reads.
+fn kind(i: usize, x: u64) -> u64 {
+    if pick(x, 6) < i as u64 {
+        return Op::READ;
+    }
+    Op::WRITE
+}
+
+// A write has a value of its own, a read that of an earlier operation.
+fn value(table: &[u64], i: usize, kind: u64, x: u64) -> u64
+    requires { ⌜ i * 5 + 5 ≤ length (now table) ⌝ }
+{
+    if kind == Op::WRITE {
+        return i as u64;
+    }
+    if i == 0 {
+        return 0;
+    }
+    let j = pick(x, i as u64) as usize;
+    table[j * Row::COLUMNS + Row::VALUE]
+}
+
+// Puts operation i into its row: it takes effect at a time of its own, and begins and ends up to `reach` away from it.
+fn operation(table: &mut [u64], i: usize, reach: u64, seed: u64) -> u64
+    requires { ⌜ (i * 5 + 5 ≤ length (now table)) × (i < 6) × (0 < reach) × (reach ≤ 100) ⌝ }
+{
+    let kind = kind(i, seed);
+    let a = next(seed);
+    let value = value(table, i, kind, a);
+    let b = next(a);
+    let c = next(b);
+    let number = i as u64;
+    let at = 100 + 10 * number;
+    let start = at - pick(b, reach);
+    let finish = at + 1 + pick(c, reach);
+    let base = i * Row::COLUMNS;
+    table[base + Row::REGISTER] = REGISTER;
+    table[base + Row::KIND] = kind;
+    table[base + Row::VALUE] = value;
+    table[base + Row::START] = start * 16 + 2 * number;
+    table[base + Row::FINISH] = finish * 16 + 2 * number + 1;
+    next(c)
+}
+
+// Fills the table with operations in the sequence in which they take effect.
+fn fill(table: &mut [u64], reach: u64, seed: u64) -> u64
+    requires { ⌜ (length (now table) ≤ 30) × (0 < reach) × (reach ≤ 100) ⌝ }
+{
+    let n = table.len() / Row::COLUMNS;
+    let mut x = seed;
+    let mut i: usize = 0;
+    while i < n {
+        x = operation(table, i, reach, x);
+        i += 1;
+    }
+    x
+}
+
+// Exchanges two rows.
+fn exchange(table: &mut [u64], a: usize, b: usize)
+    requires { ⌜ (a * 5 + 5 ≤ length (now table)) × (b * 5 + 5 ≤ length (now table)) ⌝ }
+{
+    let mut column: usize = 0;
+    while column < Row::COLUMNS {
+        let kept = table[a * Row::COLUMNS + column];
+        table[a * Row::COLUMNS + column] = table[b * Row::COLUMNS + column];
+        table[b * Row::COLUMNS + column] = kept;
+        column += 1;
+    }
+}
+
+// Exchanges each row with a random one before it or itself, so that the rows come in any sequence.
+fn mix(table: &mut [u64], seed: u64) -> u64
+    requires { ⌜ length (now table) ≤ 30 ⌝ }
+{
+    let n = table.len() / Row::COLUMNS;
+    let mut x = seed;
+    let mut i: usize = 0;
+    while i < n {
+        x = next(x);
+        let j = pick(x, i as u64 + 1) as usize;
+        exchange(table, i, j);
+        i += 1;
+    }
+    x
+}
+
+// One in eight times: a small number in a random place, but not for a register, so that the register may be refused.
+fn spoil(table: &mut [u64], seed: u64) -> u64
+    requires { ⌜ length (now table) ≤ 30 ⌝ }
+{
+    let n = table.len() / Row::COLUMNS;
+    let a = next(seed);
+    if 0 < pick(a, 8) {
+        return a;
+    }
+    if n == 0 {
+        return a;
+    }
+    let b = next(a);
+    let c = next(b);
+    let row = pick(b, n as u64) as usize;
+    let column = Row::KIND + pick(c, 4) as usize;
+    let d = next(c);
+    table[row * Row::COLUMNS + column] = pick(d, 4);
+    next(d)
+}
+
+// A random history in the whole table.
+fn history(table: &mut [u64], seed: u64) -> u64
+    requires { ⌜ length (now table) ≤ 30 ⌝ }
+{
+    let a = next(seed);
+    let reach = 2 + 4 * pick(a, 5);
+    let b = fill(table, reach, a);
+    let c = mix(table, b);
+    spoil(table, c)
+}
+
+// The list of the numbers below its length in the order of the number p; the numbers below the factorial of the length give all orders.
+fn permute(p: u64, list: &mut [u64]) {
+    let n = list.len();
+    let mut rest = p;
+    let mut i: usize = 0;
+    while i < n {
+        let choices = i as u64 + 1;
+        let j = remainder(rest, choices) as usize;
+        rest /= choices;
+        list[i] = list[j];
+        list[j] = i as u64;
+        i += 1;
+    }
+}
+
+// The number of orders of up to six rows.
+fn orders_of(n: usize) -> u64 {
+    match n {
+        0 | 1 => 1,
+        2 => 2,
+        3 => 6,
+        4 => 24,
+        5 => 120,
+        _ => 720,
+    }
+}
+
+// What a trial of all orders says of the register: fresh where the check accepts one, a refusal where the check refuses the register, else stale. The
+// list has a place for each row.
+fn trial(table: &[u64], k: u64, list: &mut [u64]) -> Answer {
+    let count = orders_of(list.len());
+    let mut p: u64 = 0;
+    while p < count {
+        permute(p, list);
+        let answer = orders::check(table, REGISTER, k, list);
+        if answer.code < Answer::SHORT_LIST {
+            return answer;
+        }
+        p += 1;
+    }
+    Answer::refused(Answer::STALE, 0)
+}
+
+// Whether the mark of the question is the expected one, and its order, if there is one, is accepted. The list has a place for each row.
+fn agrees(table: &[u64], question: u64, k: u64, expected: Answer, list: &mut [u64]) -> bool {
+    let answer = marker::mark(table, REGISTER, question, TRIALS, list);
+    if answer.code != expected.code {
+        return false;
+    }
+    if answer.row != expected.row {
+        return false;
+    }
+    if answer.code != Answer::FRESH {
+        return true;
+    }
+    orders::check(table, REGISTER, k, list).code == Answer::FRESH
+}
+
+fn more(count: u64) -> u64 {
+    if count < 18446744073709551615 {
+        return count + 1;
+    }
+    count
+}
+
+struct Tally {
+    fresh: u64,
+    stale: u64,
+    refused: u64,
+    differences: u64,
+}
+
+impl Tally {
+    fn differs(self, same: bool) -> Tally {
+        if same {
+            return self;
+        }
+        Tally {
+            fresh: self.fresh,
+            stale: self.stale,
+            refused: self.refused,
+            differences: more(self.differences),
+        }
+    }
+
+    fn add(self, code: u64) -> Tally {
+        if code == Answer::FRESH {
+            return Tally {
+                fresh: more(self.fresh),
+                stale: self.stale,
+                refused: self.refused,
+                differences: self.differences,
+            };
+        }
+        if code == Answer::STALE {
+            return Tally {
+                fresh: self.fresh,
+                stale: more(self.stale),
+                refused: self.refused,
+                differences: self.differences,
+            };
+        }
+        Tally {
+            fresh: self.fresh,
+            stale: self.stale,
+            refused: more(self.refused),
+            differences: self.differences,
+        }
+    }
+}
+
+// One history more: what all orders say of it, and whether the mark says the same.
+fn tallied(tally: Tally, table: &[u64], question: u64, k: u64) -> Tally
+    requires { ⌜ length (now table) ≤ 30 ⌝ }
+{
+    let n = table.len() / Row::COLUMNS;
+    let mut orders = [0u64; ROWS];
+    let expected = trial(table, k, &mut orders[..n]);
+    let mut list = [0u64; ROWS];
+    let same = agrees(table, question, k, expected, &mut list[..n]);
+    tally.add(expected.code).differs(same)
+}
+
+// One history more, made in the whole table.
+fn made(tally: Tally, table: &mut [u64], seed: u64, question: u64, k: u64) -> Tally
+    requires { ⌜ length (now table) ≤ 30 ⌝ }
+{
+    history(table, seed);
+    tallied(tally, table, question, k)
+}
+
+// One history more, the one with the number.
+fn turn(tally: Tally, number: u64, question: u64, k: u64) -> Tally
+    requires { ⌜ number < 10000 ⌝ }
+{
+    let seed = next(next(number * 40503 + 1));
+    let mut table = [0u64; 30];
+    let m = size(seed) * Row::COLUMNS;
+    made(tally, &mut table[..m], next(seed), question, k)
+}
+
+// The histories of the run, marked by the question.
+fn compared(question: u64, k: u64) -> Tally {
+    let mut tally = Tally {
+        fresh: 0,
+        stale: 0,
+        refused: 0,
+        differences: 0,
+    };
+    let mut i: u64 = 0;
+    while i < HISTORIES {
+        tally = turn(tally, i, question, k);
+        i += 1;
+    }
+    tally
+}
+
+fn field(name: &[u8], n: u64) {
+    io::write_all(STDOUT_FILENO, name);
+    io::print_decimal(STDOUT_FILENO, n);
+}
+
+fn show(question: u64, tally: Tally) {
+    field(b"question ", question);
+    field(b": histories ", HISTORIES);
+    field(b", fresh ", tally.fresh);
+    field(b", stale ", tally.stale);
+    field(b", refused ", tally.refused);
+    field(b", differences ", tally.differences);
+    io::write_all(STDOUT_FILENO, b"\n");
+}
+
+fn main() {
+    show(1, compared(1, 1));
+    show(2, compared(2, 2));
+    show(3, compared(3, 2));
+}
