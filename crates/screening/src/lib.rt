@@ -227,7 +227,7 @@ fn fill(table: &[u64], rows: &[u64], stamps: &mut [u64], firsts: &mut [u64], wri
     ensures { λ _. ⌜ Filled (now (table .entry)) (now (rows .entry)) (now (stamps .exit)) (now (firsts .exit)) (now (writer .exit)) ⌝ }
 {
     stamps_of(table, rows, stamps);
-    sorting::firsts(stamps, firsts);
+    holders::firsts(stamps, firsts);
     writers::writers(table, rows, writer);
 }
 

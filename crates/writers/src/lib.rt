@@ -91,7 +91,7 @@ fn writers_with(
     ensures { λ _. ⌜ now (out .exit) ≡ map (writerOf (now (table .entry)) (now (rows .entry))) (now (rows .entry)) ⌝ }
 {
     value_of(table, rows, values);
-    sorting::firsts(values, firsts);
+    holders::firsts(values, firsts);
     clear(slots);
     mark(table, rows, firsts, slots);
     pick(table, rows, firsts, slots, out);

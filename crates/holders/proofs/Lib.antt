@@ -1,0 +1,3 @@
+-- The laws of the two loops.
+pub mod Walking
+pub mod Hashing

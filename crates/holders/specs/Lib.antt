@@ -1,0 +1,2 @@
+-- First places in buckets.
+pub mod Buckets
