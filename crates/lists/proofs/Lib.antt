@@ -14,3 +14,4 @@ pub mod Scans
 pub mod Decide
 pub mod Stores
 pub mod Filled
+pub mod Groups
