@@ -44,15 +44,24 @@ pub row-below : (t : List ℕ) (register i : ℕ) → isRow t register i ≡ tru
 row-below t register i e = told-true (told-row t register i) e .exists
 
 module _ (t : List ℕ) (register : ℕ) (order : List ℕ) (n p : ℕ) (few : rowCount t ≤ n) where
-  -- the test by the marks is the defined one
-  pub seen-misfits : (seen : List ℕ) → Seen order n p seen → (not (isRow t register (getD order p 0)) || ltb 0 (getD seen (getD order p 0) 0)) ≡ misfits t register order p
+  -- the test by the marks
+  abbrev byMarks : List ℕ → Bool
+  byMarks seen = not (isRow t register (getD order p 0)) || ltb 0 (getD seen (getD order p 0) 0)
+
+  same-misfits : (seen : List ℕ) → Seen order n p seen → byMarks seen ≡ misfits t register order p
   unfolding misfits sameRow
-  seen-misfits seen s = go (isRow t register (getD order p 0)) refl
+  same-misfits seen s = go (isRow t register (getD order p 0)) refl
     where
       go : (b : Bool) → isRow t register (getD order p 0) ≡ b → (not b || ltb 0 (getD seen (getD order p 0) 0)) ≡ (not b || any (holds order (getD order p 0)) (upTo p))
       go true e = s .marks (getD order p 0) (omega (arith, row-below t register (getD order p 0) e))
       go false e = refl
 
+  -- what it answers is what is defined
+  pub seen-misfits : (seen : List ℕ) → Seen order n p seen → (r b : Bool) → r ≡ byMarks seen → r ≡ b → misfits t register order p ≡ b
+  seen-misfits seen s r b e f = sym (same-misfits seen s) ∙ sym e ∙ f
+
   -- a row that fits has a mark
-  pub fit-below : (b : Bool) → (not (isRow t register (getD order p 0)) || b) ≡ false → getD order p 0 < n
-  fit-below b e = omega (arith, row-below t register (getD order p 0) (not-false _ (or-false _ b e .0)))
+  pub fit-below : (seen : List ℕ) (r : Bool) → r ≡ byMarks seen → r ≡ false → getD order p 0 < n
+  fit-below seen r e f =
+      let row = or-false (not (isRow t register (getD order p 0))) (ltb 0 (getD seen (getD order p 0) 0)) (sym e ∙ f) .0 in
+      omega (arith, row-below t register (getD order p 0) (not-false (isRow t register (getD order p 0)) row))

@@ -89,6 +89,7 @@ fn lowest_misfit_with(table: &[u64], register: u64, list: &[u64], seen: &mut [u6
     Found::Nothing
 }
 
+// The same, with the marks inside.
 fn lowest_misfit(table: &[u64], register: u64, list: &[u64]) -> Found
     requires { ⌜ rowCount (now table) ≤ largestCount ⌝ }
     ensures { λ r. ⌜ r ≡ lowestAt (misfits (now (table .entry)) register (now (list .entry))) (now (list .entry)) ⌝ }
@@ -203,6 +204,7 @@ fn lowest_too_far_with(
     first_too_far(table, k, list, writer, counts)
 }
 
+// The same, with the slices inside.
 fn lowest_too_far(table: &[u64], k: u64, list: &[u64]) -> Found
     requires { ⌜ Ordered (now table) (now list) ⌝ }
     ensures { λ r. ⌜ r ≡ lowestAt (tooFar k (now (table .entry)) (now (list .entry))) (now (list .entry)) ⌝ }

@@ -10,7 +10,7 @@ ghost use lib.ListN.{length};
 
 const REGISTER: u64 = 7;
 
-const HISTORIES: u64 = 10000;
+const HISTORIES: u64 = 3000;
 
 // Twice six less one: always enough for LBT.
 const TRIALS: u64 = 11;
@@ -299,7 +299,7 @@ fn made(tally: Tally, table: &mut [u64], seed: u64, question: u64, k: u64) -> Ta
 
 // One history more, the one with the number.
 fn turn(tally: Tally, number: u64, question: u64, k: u64) -> Tally
-    requires { ⌜ number < 10000 ⌝ }
+    requires { ⌜ number < 3000 ⌝ }
 {
     let seed = next(next(number * 40503 + 1));
     let mut table = [0u64; 30];

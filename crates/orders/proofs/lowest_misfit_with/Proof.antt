@@ -1,6 +1,6 @@
 -- The loop looks at the positions in sequence (`Scan`), and marks the row of each (`Seen`).
 use Prim.Native.Nat.{_-_}
-use mathlib.Core.Path.{refl, sym, _∙_}
+use mathlib.Core.Path.{refl, sym}
 use native.Mathlib.Omega.{arith}
 use lib.ListN.{length}
 use Rattle.lists.specs.Lists.{first}
@@ -36,20 +36,20 @@ returns : tie.Need-returns Inv-loop μ-loop
 returns c =
     let a = c .before .before .before .before .before .before .before .before .before .args in
     let l = c .before .before .before .before .before .loop in
-    sym (scan-hit _ _ _ _ (omega arith) (l .inv .0) (λ r. first-cons-hit _ _ r _ (sym (seen-misfits (a .table .now) (a .register) (a .list .now) (length (a .seen .now)) (l .p) (c .before .before .before .before .before .before .before .before .before .pre .0) (l .seen) (l .inv .1)) ∙ sym (c .before .unfit .ensures) ∙ c .if1 .taken)))
+    sym (scan-hit _ _ _ _ (omega arith) (l .inv .0) (λ r. first-cons-hit _ _ r _ (seen-misfits (a .table .now) (a .register) (a .list .now) (length (a .seen .now)) (l .p) (c .before .before .before .before .before .before .before .before .before .pre .0) (l .seen) (l .inv .1) (c .before .unfit .result) _ (c .before .unfit .ensures) (c .if1 .taken))))
 
 mul-seen : tie.Need-mul-seen Inv-loop μ-loop
 mul-seen c =
     let a = c .before .before .before .before .before .before .before .before .before .args in
     let l = c .before .before .before .before .before .loop in
-    let below = fit-below (a .table .now) (a .register) (a .list .now) (length (a .seen .now)) (l .p) (c .before .before .before .before .before .before .before .before .before .pre .0) _ (sym (c .before .unfit .ensures) ∙ c .if1 .left) in
+    let below = fit-below (a .table .now) (a .register) (a .list .now) (length (a .seen .now)) (l .p) (c .before .before .before .before .before .before .before .before .before .pre .0) (l .seen) (c .before .unfit .result) (c .before .unfit .ensures) (c .if1 .left) in
     omega (arith, l .inv .1 .long)
 
 slice-write-seen : tie.Need-slice-write-seen Inv-loop μ-loop
 slice-write-seen c =
     let a = c .before .before .before .before .before .before .before .before .before .args in
     let l = c .before .before .before .before .before .loop in
-    let below = fit-below (a .table .now) (a .register) (a .list .now) (length (a .seen .now)) (l .p) (c .before .before .before .before .before .before .before .before .before .pre .0) _ (sym (c .before .unfit .ensures) ∙ c .if1 .left) in
+    let below = fit-below (a .table .now) (a .register) (a .list .now) (length (a .seen .now)) (l .p) (c .before .before .before .before .before .before .before .before .before .pre .0) (l .seen) (c .before .unfit .result) (c .before .unfit .ensures) (c .if1 .left) in
     omega (arith, l .inv .1 .long)
 
 add-p : tie.Need-add-p Inv-loop μ-loop
@@ -62,8 +62,8 @@ loop-again : tie.Need-loop-again Inv-loop μ-loop
 loop-again c =
     let a = c .before .before .before .before .before .before .before .before .before .args in
     let l = c .before .before .before .before .before .loop in
-    let below = fit-below (a .table .now) (a .register) (a .list .now) (length (a .seen .now)) (l .p) (c .before .before .before .before .before .before .before .before .before .pre .0) _ (sym (c .before .unfit .ensures) ∙ c .if1 .left) in
-    (scan-more _ _ _ _ (omega arith) (l .inv .0) (λ r. first-cons-miss _ _ r _ (sym (seen-misfits (a .table .now) (a .register) (a .list .now) (length (a .seen .now)) (l .p) (c .before .before .before .before .before .before .before .before .before .pre .0) (l .seen) (l .inv .1)) ∙ sym (c .before .unfit .ensures) ∙ c .if1 .left)), seen-more _ _ (l .p) _ (l .seen) refl below (l .inv .1))
+    let below = fit-below (a .table .now) (a .register) (a .list .now) (length (a .seen .now)) (l .p) (c .before .before .before .before .before .before .before .before .before .pre .0) (l .seen) (c .before .unfit .result) (c .before .unfit .ensures) (c .if1 .left) in
+    (scan-more _ _ _ _ (omega arith) (l .inv .0) (λ r. first-cons-miss _ _ r _ (seen-misfits (a .table .now) (a .register) (a .list .now) (length (a .seen .now)) (l .p) (c .before .before .before .before .before .before .before .before .before .pre .0) (l .seen) (l .inv .1) (c .before .unfit .result) _ (c .before .unfit .ensures) (c .if1 .left))), seen-more _ _ (l .p) _ (l .seen) refl below (l .inv .1))
 
 same-length-2 : tie.Need-same-length-2 Inv-loop μ-loop
 same-length-2 c = c .before .loop .inv .1 .long

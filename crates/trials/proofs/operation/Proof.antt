@@ -21,91 +21,91 @@ next-requires-3 : tie.Need-next-requires-3
 next-requires-3 c κs = search needs
 
 mul-at : tie.Need-mul-at
-mul-at c = search needs
+mul-at c = omega arith
 
 add-at : tie.Need-add-at
-add-at c = search needs
+add-at c = omega arith
 
 pick-requires : tie.Need-pick-requires
 pick-requires c κs = search needs
 
 sub-start : tie.Need-sub-start
-sub-start c = search needs
+sub-start c = omega arith
 
 add-finish : tie.Need-add-finish
-add-finish c = search needs
+add-finish c = omega arith
 
 pick-requires-2 : tie.Need-pick-requires-2
 pick-requires-2 c κs = search needs
 
 add-finish-2 : tie.Need-add-finish-2
-add-finish-2 c = search needs
+add-finish-2 c = omega arith
 
 mul-base : tie.Need-mul-base
-mul-base c = search needs
+mul-base c = omega arith
 
 add-table : tie.Need-add-table
-add-table c = search needs
+add-table c = omega arith
 
 mul-table : tie.Need-mul-table
-mul-table c = search needs
+mul-table c = omega arith
 
 slice-write-table : tie.Need-slice-write-table
-slice-write-table c = search needs
+slice-write-table c = omega arith
 
 add-table-2 : tie.Need-add-table-2
-add-table-2 c = search needs
+add-table-2 c = omega arith
 
 mul-table-2 : tie.Need-mul-table-2
-mul-table-2 c = search needs
+mul-table-2 c = omega arith
 
 slice-write-table-2 : tie.Need-slice-write-table-2
 slice-write-table-2 c = simp length-set (omega arith)
 
 add-table-3 : tie.Need-add-table-3
-add-table-3 c = search needs
+add-table-3 c = omega arith
 
 mul-table-3 : tie.Need-mul-table-3
-mul-table-3 c = search needs
+mul-table-3 c = omega arith
 
 slice-write-table-3 : tie.Need-slice-write-table-3
 slice-write-table-3 c = simp length-set (omega arith)
 
 mul-table-4 : tie.Need-mul-table-4
-mul-table-4 c = search needs
+mul-table-4 c = omega arith
 
 mul-table-5 : tie.Need-mul-table-5
-mul-table-5 c = search needs
+mul-table-5 c = omega arith
 
 add-table-4 : tie.Need-add-table-4
-add-table-4 c = search needs
+add-table-4 c = omega arith
 
 add-table-5 : tie.Need-add-table-5
-add-table-5 c = search needs
+add-table-5 c = omega arith
 
 mul-table-6 : tie.Need-mul-table-6
-mul-table-6 c = search needs
+mul-table-6 c = omega arith
 
 slice-write-table-4 : tie.Need-slice-write-table-4
 slice-write-table-4 c = simp length-set (omega arith)
 
 mul-table-7 : tie.Need-mul-table-7
-mul-table-7 c = search needs
+mul-table-7 c = omega arith
 
 mul-table-8 : tie.Need-mul-table-8
-mul-table-8 c = search needs
+mul-table-8 c = omega arith
 
 add-table-6 : tie.Need-add-table-6
-add-table-6 c = search needs
+add-table-6 c = omega arith
 
 add-table-7 : tie.Need-add-table-7
-add-table-7 c = search needs
+add-table-7 c = omega arith
 
 add-table-8 : tie.Need-add-table-8
-add-table-8 c = search needs
+add-table-8 c = omega arith
 
 mul-table-9 : tie.Need-mul-table-9
-mul-table-9 c = search needs
+mul-table-9 c = omega arith
 
 slice-write-table-5 : tie.Need-slice-write-table-5
 slice-write-table-5 c = simp length-set (omega arith)
