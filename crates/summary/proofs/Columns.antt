@@ -11,7 +11,7 @@ use Rattle.lists.specs.Lists.{from, upTo}
 use Rattle.lists.specs.Sorts.{sort}
 use Rattle.lists.proofs.Images.{sort-map, getD-map}
 use Rattle.history.specs.Table.{rowCount}
-use Rattle.columns.proofs.Filled.{Filled, filled-none, filled-more, filled-end}
+use Rattle.lists.proofs.Filled.{Filled, filled-none, filled-more, filled-end}
 use Rattle.sorting.specs.Keys.{rises}
 use Rattle.summary.specs.Registers.{registerAt, registerColumn, distinct, registers}
 
