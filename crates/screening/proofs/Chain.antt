@@ -1,16 +1,19 @@
 -- Tests 1 to 9 as the code runs them: past the first three, a chain of the six that look at each row.
 -- Assumes nothing.
-use Prim.Native.Nat.{ℕ, _≤_, _/_, _%_}
+use Prim.Native.Nat.{ℕ, _<_, _≤_, _/_, _%_}
 use mathlib.Core.Path.{_≡_, refl, ap, ap₂, sym, _∙_}
 use mathlib.Core.Logic.{_≢_}
 use mathlib.Core.Bool.{Bool, true, false, cond}
-use mathlib.Core.List.{List, map}
+use mathlib.Core.List.{List, [], map}
 use native.Mathlib.Omega.{arith}
 use borrow.Author.Tests.{eq-eqb, le-ltb, eqb-true, eqb-false}
 use lib.Dec.{eqb}
-use lib.ListN.{length}
+use lib.ListN.{length, getD}
 use Rattle.lists.specs.declared.Found.{Found}
 use Rattle.lists.specs.declared.Found.the-variants.{At, Nothing}
+use Rattle.lists.specs.Lists.{upTo}
+use Rattle.lists.proofs.Members.{none-nothing}
+use Rattle.lists.proofs.Ranges.{in-below}
 use Rattle.history.specs.declared.Op.{Op}
 use Rattle.history.specs.declared.Answer.{Answer}
 use Rattle.history.specs.Table.{largestCount, Alike, opAt}
@@ -20,7 +23,7 @@ use Rattle.history.proofs.Rows.{same-history}
 use Rattle.history.proofs.Refusals.{Coded, orTest, chained, met-chained}
 use Rattle.screening.specs.declared.RowTest.{RowTest}
 use Rattle.screening.specs.declared.RowTest.the-variants.{Kind, Span, Shared, Twin, Orphan, Early}
-use Rattle.screening.specs.Tests.{condition, rowTests, shows, lowestAt, shownTest, Listed, Filled}
+use Rattle.screening.specs.Tests.{condition, rowTests, shows, lowestAt, shownTest, Quiet, Listed, Filled}
 use Rattle.screening.proofs.Shows.{lowest-is, shared-is, twin-is, orphan-is, early-is}
 
 coded : (h : List Op) → Coded (rowTests h)
@@ -97,6 +100,28 @@ module _ (t rows stamps firsts writer : List ℕ) (g : Listed t rows) (f : Fille
       or-same _ _ _ _ (λ z. early-same (once a b z))
       ∙ rw (kind-same a, span-same b, shared-same, twin-same, orphan-same) refl
       ∙ sym (met-chained (rowTests h) (coded h) (passed (length rows)) refl)
+
+  -- a test that no row shows refuses nothing
+  or-quiet : (a : Answer) (x : RowTest) (column : List ℕ) → ((i : ℕ) → i < length rows → shows x t rows column i ≡ false) → orTest a (shownTest t rows column x) ≡ a
+  unfolding orTest
+  or-quiet a x column e =
+      rw (none-nothing (λ i. getD rows i 0) (shows x t rows column) (upTo (length rows)) (λ i m. e i (in-below (length rows) m))) (go (eqb (a .code) 0))
+    where
+      go : (b : Bool) → cond b a a ≡ a
+      go true = refl
+      go false = refl
+
+  -- where no row shows a condition, the register passes
+  pub rows-quiet : ((i : ℕ) → i < length rows → Quiet t rows firsts writer i) → passed (length rows) ≡ firstMet (rowTests h) (passed (length rows))
+  rows-quiet q =
+      sym
+      (or-quiet _ Early writer (λ i l. q i l .early)
+      ∙ or-quiet _ Orphan writer (λ i l. q i l .orphan)
+      ∙ or-quiet _ Twin writer (λ i l. q i l .twin)
+      ∙ or-quiet _ Shared firsts (λ i l. q i l .shared)
+      ∙ or-quiet _ Span [] (λ i l. q i l .span [])
+      ∙ or-quiet _ Kind [] (λ i l. q i l .kind []))
+      ∙ rows-examined [] []
 
 -- Only the register's rows are examined: a table alike gets the same answer.
 pub alike-screening : (t u : List ℕ) (register : ℕ) → Alike t u register → screening t register ≡ screening u register

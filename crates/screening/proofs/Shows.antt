@@ -1,33 +1,34 @@
 -- What the code looks at in a row is the row's condition.
 -- Assumes nothing.
 use Prim.Native.Nat.{ℕ, zero, suc, _+_, _*_, _≤_, _<_}
-use mathlib.Core.Path.{_≡_, sym, ap, _∙_}
-use mathlib.Core.Bool.{Bool}
+use mathlib.Core.Path.{_≡_, refl, sym, ap, _∙_}
+use mathlib.Core.Bool.{Bool, true, false, _&&_}
 use mathlib.Core.Logic.{_⊎_, inl, inr}
 use mathlib.Core.List.{List, map, List·Memᴰ as In}
 use native.Mathlib.Decide.{decLt}
 use native.Mathlib.Nat.{eq-or-lt-of-le}
 use native.Mathlib.Omega.{arith}
+use borrow.Author.Tests.{lt-ltb, le-ltb, lt-leb}
 use lib.ListN.{length, getD}
 use Rattle.lists.specs.declared.Found.the-variants.{Nothing}
 use Rattle.lists.specs.Lists.{first, upTo}
 use Rattle.lists.specs.Pairs.{Pairs}
-use Rattle.lists.proofs.Tests.{both, told-same, told-as, told-and, told-or, told-ltb, told-leb, told-true, true-told, told-false}
+use Rattle.lists.proofs.Tests.{both, told-same, told-as, told-and, told-or, told-ltb, told-leb, told-true, true-told, told-false, false-told}
 use Rattle.lists.proofs.Maps.{in-map, map-in}
 use Rattle.lists.proofs.Members.{nothing-none, first-ext, first-map}
 use Rattle.lists.proofs.Ranges.{in-below, at-each}
 use Rattle.lists.proofs.Images.{getD-map, getD-in, in-at, pairs-at}
 use Rattle.history.specs.declared.Op.{Op}
-use Rattle.history.specs.Table.{opAt, Precedes, Dictates}
+use Rattle.history.specs.Table.{Dictates, Precedes, isRead, isWrite, opAt, precedes}
 use Rattle.history.specs.Answer.{lowestRow}
-use Rattle.history.specs.Screen.{rewrites}
+use Rattle.history.specs.Screen.{wrongKind, wrongSpan, rewrites}
 use Rattle.history.proofs.Operations.{told-write, told-read, told-precedes}
 use Rattle.history.proofs.Screened.{HasStamp, Shares, Repeats, told-shares, told-rewrites, told-unwritten, told-early}
 use Rattle.sorting.specs.Firsts.{Firsts}
 use Rattle.writers.specs.Writers.{writes, writesAt, writerOf, rowOp}
 use Rattle.writers.proofs.Seeking.{Seek, found, none, seek?, writes-is, is-writes}
 use Rattle.screening.specs.declared.RowTest.the-variants.{Shared, Twin, Orphan, Early}
-use Rattle.screening.specs.Tests.{condition, Stamped, shows, lowestAt}
+use Rattle.screening.specs.Tests.{condition, Stamped, shows, lowestAt, sharedAt, Quiet}
 
 -- a number is even, or one more
 half : (e : ℕ) → (j : ℕ) × ((e ≡ 2 * j) ⊎ (e ≡ 2 * j + 1))
@@ -214,3 +215,36 @@ module _ (t rows : List ℕ) where
                 let j = op-at m in
                 let x : Dictates (op (j .0)) (op i) = rw (j .2) at d in
                 (a, at (j .0) (j .1) x (rw (j .2) at p) (at-first i (j .0) k (j .1) (x .writes) (x .same) (writer-at i l)))
+
+-- A row that shows no condition: of a write, and of another row.
+and-false : (b : Bool) → (b && false) ≡ false
+and-false true = refl
+and-false false = refl
+
+module _ (t rows firsts writer : List ℕ) (i : ℕ) (kind : wrongKind (rowOp t rows i) ≡ false) (span : wrongSpan (rowOp t rows i) ≡ false) (shared : sharedAt firsts i ≡ false) where
+  pub quiet-write : isWrite (rowOp t rows i) ≡ true → i ≤ getD writer i 0 → Quiet t rows firsts writer i
+  unfolding shows
+  quiet-write e l =
+      record {
+        kind = λ c. kind;
+        span = λ c. span;
+        shared = shared;
+        twin = rw (e, le-ltb (getD writer i 0) i l);
+        orphan = rw not-read;
+        early = rw not-read;
+      }
+    where
+      not-read : isRead (rowOp t rows i) ≡ false
+      not-read = false-told (told-read (rowOp t rows i)) (λ r. omega (arith, told-true (told-write (rowOp t rows i)) e))
+
+  pub quiet-other : isWrite (rowOp t rows i) ≡ false → getD writer i 0 < length rows → precedes (rowOp t rows i) (rowOp t rows (getD writer i 0)) ≡ false → Quiet t rows firsts writer i
+  unfolding shows
+  quiet-other e l p =
+      record {
+        kind = λ c. kind;
+        span = λ c. span;
+        shared = shared;
+        twin = rw e;
+        orphan = rw (lt-leb (length rows) (getD writer i 0) l) (and-false (isRead (rowOp t rows i)));
+        early = rw (p, lt-ltb (getD writer i 0) (length rows) l) (and-false (isRead (rowOp t rows i)));
+      }

@@ -2,7 +2,7 @@
 -- Assumes nothing.
 use Prim.Native.Nat.{ℕ, _+_, _*_, _≤_, _<_}
 use mathlib.Core.Path.{_≡_}
-use mathlib.Core.Bool.{Bool, _&&_, _||_}
+use mathlib.Core.Bool.{Bool, false, _&&_, _||_}
 use mathlib.Core.List.{List, [], _∷_, map}
 use lib.Dec.{ltb, leb}
 use lib.ListN.{length, getD}
@@ -67,6 +67,15 @@ lowestAt p rows = first (λ i. getD rows i 0) p (upTo (length rows))
 
 abbrev pub shownTest : List ℕ → List ℕ → List ℕ → RowTest → Test
 shownTest t rows column x = test (codeOf x) (lowestAt (shows x t rows column) rows)
+
+-- the i-th row shows no condition
+pub record Quiet (t rows firsts writer : List ℕ) (i : ℕ) : Type 0 where
+  pub kind : (column : List ℕ) → shows Kind t rows column i ≡ false
+  pub span : (column : List ℕ) → shows Span t rows column i ≡ false
+  pub shared : shows Shared t rows firsts i ≡ false
+  pub twin : shows Twin t rows writer i ≡ false
+  pub orphan : shows Orphan t rows writer i ≡ false
+  pub early : shows Early t rows writer i ≡ false
 
 -- rows of the table, rising, no more than a table has
 pub record Listed (t rows : List ℕ) : Type 0 where

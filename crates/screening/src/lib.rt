@@ -4,7 +4,7 @@ use history::Op;
 use history::Row;
 use lists::Found;
 ghost use mathlib.Core.Path.{_≡_};
-ghost use mathlib.Core.Bool.{_&&_};
+ghost use mathlib.Core.Bool.{true, _&&_};
 ghost use mathlib.Core.Logic.{_↔_};
 ghost use Prim.Native.Nat.{ℕ, _+_, _*_, _≤_, _<_};
 ghost use mathlib.Core.List.{List, map};
@@ -16,7 +16,7 @@ ghost use Rattle.history.specs.Screen.{wrongKind, wrongSpan, examined, screenin
 ghost use Rattle.history.proofs.Searches.{oneIf};
 ghost use Rattle.history.proofs.Refusals.{orTest};
 ghost use Rattle.writers.specs.Writers.{Within, rowOp};
-ghost use Rattle.screening.specs.Tests.{codeOf, rowTests, Stamped, sharedAt, shows, lowestAt, shownTest, Listed, Ready, Filled};
+ghost use Rattle.screening.specs.Tests.{codeOf, rowTests, Stamped, sharedAt, shows, lowestAt, shownTest, Quiet, Listed, Ready, Filled};
 
 // The tests that look at each row of the register, in their sequence.
 enum RowTest {
@@ -231,6 +231,47 @@ fn fill(table: &[u64], rows: &[u64], stamps: &mut [u64], firsts: &mut [u64], wri
     writers::writers(table, rows, writer);
 }
 
+// Whether the i-th row meets no condition of tests 4 to 9.
+fn quiet(table: &[u64], rows: &[u64], firsts: &[u64], writer: &[u64], i: usize) -> bool
+    requires { ⌜ Listed (now table) (now rows) ⌝ }
+    requires { ⌜ i < length (now rows) ⌝ }
+    ensures { λ r. ⌜ (r ≡ true → Quiet (now (table .entry)) (now (rows .entry)) (now (firsts .entry)) (now (writer .entry)) i) ⌝ }
+{
+    let o = Op::at(table, rows[i] as usize);
+    if wrong_kind(o) {
+        return false;
+    }
+    if wrong_span(o) {
+        return false;
+    }
+    if shared(firsts, i) {
+        return false;
+    }
+    let w = entry(writer, i) as usize;
+    if o.is_write() {
+        return w >= i;
+    }
+    if w < rows.len() {
+        return !o.precedes(Op::at(table, rows[w] as usize));
+    }
+    false
+}
+
+// Whether no row meets a condition of tests 4 to 9: one pass for a register that passes.
+fn all_quiet(table: &[u64], rows: &[u64], firsts: &[u64], writer: &[u64]) -> bool
+    requires { ⌜ Listed (now table) (now rows) ⌝ }
+    ensures { λ r. ⌜ (r ≡ true → ((i : ℕ) → i < length (now (rows .entry)) → Quiet (now (table .entry)) (now (rows .entry)) (now (firsts .entry)) (now (writer .entry)) i)) ⌝ }
+{
+    let mut i: usize = 0;
+    while i < rows.len() {
+        if !quiet(table, rows, firsts, writer, i) {
+            return false;
+        }
+        i += 1;
+    }
+    true
+}
+
 // Tests 4 to 9 of the rows.
 fn test_rows(table: &[u64], rows: &[u64], firsts: &[u64], writer: &[u64]) -> Answer
     requires { ⌜ Listed (now table) (now rows) ⌝ }
@@ -238,6 +279,9 @@ fn test_rows(table: &[u64], rows: &[u64], firsts: &[u64], writer: &[u64]) -> Ans
     ensures { λ r. ⌜ r ≡ firstMet (rowTests (map (opAt (now (table .entry))) (now (rows .entry)))) (passed (length (now (rows .entry)))) ⌝ }
 {
     let none = Answer::passed(rows.len() as u64);
+    if all_quiet(table, rows, firsts, writer) {
+        return none;
+    }
     let kind = or_test(table, rows, rows, none, RowTest::Kind);
     let span = or_test(table, rows, rows, kind, RowTest::Span);
     let shared = or_test(table, rows, firsts, span, RowTest::Shared);
