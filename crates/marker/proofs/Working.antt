@@ -4,7 +4,8 @@ use Prim.Native.Nat.{ℕ, _-_, _≤_}
 use mathlib.Core.Path.{_≡_, sym, ap, _∙_}
 use mathlib.Core.List.{List}
 use native.Mathlib.Omega.{arith}
-use lib.ListN.{length, take, drop, replicate, length-map, length-append, take-append-drop}
+use lib.ListN.{length, take, drop, replicate, length-map, length-append, length-replicate, take-append-drop}
+use lib.Seq.{length-take-le}
 use Rattle.lists.proofs.Pairs.{pairs-map}
 use Rattle.lists.proofs.Cover.{no-longer-by}
 use Rattle.lists.proofs.Sorts.{sort-length}
@@ -18,7 +19,7 @@ use Rattle.meaning.specs.Marked.{Passes}
 use Rattle.meaning.proofs.Methods.{Settles, settles-order, method-settles}
 use Rattle.positions.specs.Columns.{Cols, size, op, ops, Sound}
 use Rattle.positions.proofs.Columns.{size-is, of-sound}
-use Rattle.positions.proofs.Arrays.{front-long, zero-long}
+use Rattle.positions.proofs.Arrays.{front-long}
 use Rattle.placing.specs.declared.Search.{Search}
 use Rattle.placing.specs.Searched.{found, Searched, is-stale, is-fresh, is-spent}
 use Rattle.columns.specs.Rows.{Listed}
@@ -121,15 +122,14 @@ module _ (t : List ℕ) (register question : ℕ) (list : List ℕ) (p : Passes 
   pub listed : Listed t register (take n rows)
   listed = rows-listed t register n (replicate 1024 0) rows (p .screened) e
 
-  -- the other slices are as long
-  zeros : length (take {A = ℕ} n (replicate 1024 0)) ≡ length (take n rows)
-  zeros = sym (zero-long n few) ∙ front
+  -- what the marking of its rows takes
+  pub rows-take : ((r : ℕ) × Listed t r (take n rows)) × ((length (take n rows) ≤ length list) × Asked question)
+  rows-take = ((register, listed), (omega (arith, front, e .0, p .room), p .asked))
 
-  -- what the work takes
-  pub work-takes :
-      Room (take n rows) (take n (replicate 1024 0)) (take n (replicate 1024 0)) (take n (replicate 1024 0)) (take n (replicate 1024 0)) (take n (replicate 1024 0))
-      × (((r : ℕ) × Listed t r (take n rows)) × ((length (take n rows) ≤ 1024) × ((length (take n rows) ≤ length list) × Asked question)))
-  work-takes = (
-    record { room-start = zeros; room-finish = zeros; room-writer = zeros; room-last = zeros; room-prev = zeros },
-    ((register, listed), (omega (arith, front, few), (omega (arith, front, e .0, p .room), p .asked))),
-  )
+-- five slices of arrays with m places, as long as the rows
+pub room-of : (m : ℕ) (rows : List ℕ) → length rows ≤ m →
+    let l = take {A = ℕ} (length rows) (replicate m 0) in
+    Room rows l l l l l
+room-of m rows h =
+    let e : length (take {A = ℕ} (length rows) (replicate m 0)) ≡ length rows = length-take-le (length rows) (replicate m 0) (rw (length-replicate {A = ℕ} m 0) h) in
+    record { room-start = e; room-finish = e; room-writer = e; room-last = e; room-prev = e }

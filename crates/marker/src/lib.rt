@@ -157,21 +157,26 @@ fn work(
     answer(found, rows, allowance, list)
 }
 
-// The mark of a register that passes tests 1 to 10.
-fn marked(table: &[u64], register: u64, question: u64, allowance: u64, list: &mut [u64]) -> Answer
-    requires { ⌜ Passes (length (now table)) (history (now table) register) question (now list) ⌝ }
-    ensures { λ r. ⌜ outcome r (now (list .exit)) ≡ judged (length (history (now (table .entry)) register)) allowance (now (list .entry)) (method question (prepared (history (now (table .entry)) register))) ⌝ }
+// So many rows are few: short arrays do for them, which are sooner cleared than the long ones.
+const FEW: usize = 64;
+
+// The mark of a screened register of few rows, from these by rising start.
+fn mark_few(table: &[u64], rows: &[u64], question: u64, allowance: u64, list: &mut [u64]) -> Answer
+    requires { ⌜ ((register : ℕ) × Listed (now table) register (now rows)) ⌝ }
+    requires { ⌜ length (now rows) ≤ 64 ⌝ }
+    requires { ⌜ length (now rows) ≤ length (now list) ⌝ }
+    requires { ⌜ Asked question ⌝ }
+    ensures { λ r. ⌜ ((register : ℕ) → Listed (now (table .entry)) register (now (rows .entry)) → outcome r (now (list .exit)) ≡ judged (length (history (now (table .entry)) register)) allowance (now (list .entry)) (method question (prepared (history (now (table .entry)) register)))) ⌝ }
 {
-    let mut rows = [0u64; Row::LARGEST_COUNT];
-    let n = columns::rows_by_start(table, register, &mut rows);
-    let mut start = [0u64; Row::LARGEST_COUNT];
-    let mut finish = [0u64; Row::LARGEST_COUNT];
-    let mut writer = [0u64; Row::LARGEST_COUNT];
-    let mut last = [0u64; Row::LARGEST_COUNT];
-    let mut prev = [0u64; Row::LARGEST_COUNT];
+    let n = rows.len();
+    let mut start = [0u64; FEW];
+    let mut finish = [0u64; FEW];
+    let mut writer = [0u64; FEW];
+    let mut last = [0u64; FEW];
+    let mut prev = [0u64; FEW];
     work(
         table,
-        &rows[..n],
+        rows,
         &mut start[..n],
         &mut finish[..n],
         &mut writer[..n],
@@ -181,6 +186,47 @@ fn marked(table: &[u64], register: u64, question: u64, allowance: u64, list: &mu
         allowance,
         list,
     )
+}
+
+// The same for as many rows as a table has.
+fn mark_many(table: &[u64], rows: &[u64], question: u64, allowance: u64, list: &mut [u64]) -> Answer
+    requires { ⌜ ((register : ℕ) × Listed (now table) register (now rows)) ⌝ }
+    requires { ⌜ length (now rows) ≤ largestCount ⌝ }
+    requires { ⌜ length (now rows) ≤ length (now list) ⌝ }
+    requires { ⌜ Asked question ⌝ }
+    ensures { λ r. ⌜ ((register : ℕ) → Listed (now (table .entry)) register (now (rows .entry)) → outcome r (now (list .exit)) ≡ judged (length (history (now (table .entry)) register)) allowance (now (list .entry)) (method question (prepared (history (now (table .entry)) register)))) ⌝ }
+{
+    let n = rows.len();
+    let mut start = [0u64; Row::LARGEST_COUNT];
+    let mut finish = [0u64; Row::LARGEST_COUNT];
+    let mut writer = [0u64; Row::LARGEST_COUNT];
+    let mut last = [0u64; Row::LARGEST_COUNT];
+    let mut prev = [0u64; Row::LARGEST_COUNT];
+    work(
+        table,
+        rows,
+        &mut start[..n],
+        &mut finish[..n],
+        &mut writer[..n],
+        &mut last[..n],
+        &mut prev[..n],
+        question,
+        allowance,
+        list,
+    )
+}
+
+// The mark of a register that passes tests 1 to 10.
+fn marked(table: &[u64], register: u64, question: u64, allowance: u64, list: &mut [u64]) -> Answer
+    requires { ⌜ Passes (length (now table)) (history (now table) register) question (now list) ⌝ }
+    ensures { λ r. ⌜ outcome r (now (list .exit)) ≡ judged (length (history (now (table .entry)) register)) allowance (now (list .entry)) (method question (prepared (history (now (table .entry)) register))) ⌝ }
+{
+    let mut rows = [0u64; Row::LARGEST_COUNT];
+    let n = columns::rows_by_start(table, register, &mut rows);
+    if n <= FEW {
+        return mark_few(table, &rows[..n], question, allowance, list);
+    }
+    mark_many(table, &rows[..n], question, allowance, list)
 }
 
 // The marking call: fresh with an order at the front of the list, stale, spent, or a refusal; but for fresh the list is left as it was.

@@ -107,7 +107,7 @@ module _ (t : List ℕ) (register m : ℕ) (rows : List ℕ) (few : rowCount t �
   gathered-long : length (take m rows) ≡ m
   gathered-long = ap length (g .1) ∙ sym (g .0)
 
-  gathered-listed : Listed t (take m rows)
+  pub gathered-listed : Listed t (take m rows)
   gathered-listed =
       record {
         within = λ x k. omega (arith, in-rows t register (rw (g .1) at k) .exists);
@@ -124,15 +124,6 @@ module _ (t : List ℕ) (register m : ℕ) (rows : List ℕ) (few : rowCount t �
 
   pub gathered-size : m ≡ length (take m rows)
   gathered-size = sym gathered-long
-
-  pub gathered-ready : (stamps firsts writer : List ℕ) → length stamps ≡ 2 * m → length firsts ≡ 2 * m → length writer ≡ m → Ready t (take m rows) stamps firsts writer
-  gathered-ready stamps firsts writer a b c =
-      record {
-        listed = gathered-listed;
-        room-stamps = omega (arith, gathered-long);
-        room-firsts = omega (arith, gathered-long);
-        room-writer = omega (arith, gathered-long);
-      }
 
   pub gathered-answer : (r : Answer) → r ≡ firstMet (rowTests (map (opAt t) (take m rows))) (passed (length (take m rows)))
       → r ≡ firstMet (rowTests (history t register)) (passed (length (history t register)))

@@ -305,8 +305,52 @@ fn examine_rows(
     test_rows(table, rows, firsts, writer)
 }
 
-// Two stamps for each of the most rows.
+// So many rows are few: short arrays do for them, which are sooner cleared than the long ones. Each row has two stamps.
+const FEW: usize = 64;
+
+const FEW_STAMPS: usize = 128;
+
 const LARGEST_STAMPS: usize = 2048;
+
+// Tests 4 to 9 of few rows.
+fn examine_few(table: &[u64], rows: &[u64]) -> Answer
+    requires { ⌜ Listed (now table) (now rows) ⌝ }
+    requires { ⌜ length (now rows) ≤ 64 ⌝ }
+    ensures { λ r. ⌜ r ≡ firstMet (rowTests (map (opAt (now (table .entry))) (now (rows .entry)))) (passed (length (now (rows .entry)))) ⌝ }
+{
+    let n = rows.len();
+    let m = 2 * n;
+    let mut stamps = [0u64; FEW_STAMPS];
+    let mut firsts = [0u64; FEW_STAMPS];
+    let mut writer = [0u64; FEW];
+    examine_rows(
+        table,
+        rows,
+        &mut stamps[..m],
+        &mut firsts[..m],
+        &mut writer[..n],
+    )
+}
+
+// The same for as many rows as a table has.
+fn examine_many(table: &[u64], rows: &[u64]) -> Answer
+    requires { ⌜ Listed (now table) (now rows) ⌝ }
+    requires { ⌜ length (now rows) ≤ largestCount ⌝ }
+    ensures { λ r. ⌜ r ≡ firstMet (rowTests (map (opAt (now (table .entry))) (now (rows .entry)))) (passed (length (now (rows .entry)))) ⌝ }
+{
+    let n = rows.len();
+    let m = 2 * n;
+    let mut stamps = [0u64; LARGEST_STAMPS];
+    let mut firsts = [0u64; LARGEST_STAMPS];
+    let mut writer = [0u64; Row::LARGEST_COUNT];
+    examine_rows(
+        table,
+        rows,
+        &mut stamps[..m],
+        &mut firsts[..m],
+        &mut writer[..n],
+    )
+}
 
 // Tests 4 to 9 of a register.
 fn examine_register(table: &[u64], register: u64) -> Answer
@@ -315,17 +359,10 @@ fn examine_register(table: &[u64], register: u64) -> Answer
 {
     let mut rows = [0u64; Row::LARGEST_COUNT];
     let n = gather(table, register, &mut rows);
-    let m = 2 * n;
-    let mut stamps = [0u64; LARGEST_STAMPS];
-    let mut firsts = [0u64; LARGEST_STAMPS];
-    let mut writer = [0u64; Row::LARGEST_COUNT];
-    examine_rows(
-        table,
-        &rows[..n],
-        &mut stamps[..m],
-        &mut firsts[..m],
-        &mut writer[..n],
-    )
+    if n <= FEW {
+        return examine_few(table, &rows[..n]);
+    }
+    examine_many(table, &rows[..n])
 }
 
 // Tests 1 to 9. `unasked` is the condition of test 3: no such question, or a k of 0.

@@ -97,8 +97,32 @@ fn writers_with(
     pick(table, rows, firsts, slots, out);
 }
 
-// The position of the first write of each row's value among the rows; their number where there is none.
-pub fn writers(table: &[u64], rows: &[u64], out: &mut [u64])
+// So many rows are few: short arrays do for them, which are sooner cleared than the long ones.
+const FEW: usize = 64;
+
+// The write of each of few rows.
+fn writers_few(table: &[u64], rows: &[u64], out: &mut [u64])
+    requires { ⌜ Within (now table) (now rows) ⌝ }
+    requires { ⌜ length (now rows) ≤ 64 ⌝ }
+    requires { ⌜ length (now out) ≡ length (now rows) ⌝ }
+    ensures { λ _. ⌜ now (out .exit) ≡ map (writerOf (now (table .entry)) (now (rows .entry))) (now (rows .entry)) ⌝ }
+{
+    let n = rows.len();
+    let mut values = [0u64; FEW];
+    let mut firsts = [0u64; FEW];
+    let mut slots = [0u64; FEW];
+    writers_with(
+        table,
+        rows,
+        &mut values[..n],
+        &mut firsts[..n],
+        &mut slots[..n],
+        out,
+    );
+}
+
+// The same for as many rows as a table has.
+fn writers_many(table: &[u64], rows: &[u64], out: &mut [u64])
     requires { ⌜ Within (now table) (now rows) ⌝ }
     requires { ⌜ length (now rows) ≤ largestCount ⌝ }
     requires { ⌜ length (now out) ≡ length (now rows) ⌝ }
@@ -116,4 +140,18 @@ pub fn writers(table: &[u64], rows: &[u64], out: &mut [u64])
         &mut slots[..n],
         out,
     );
+}
+
+// The position of the first write of each row's value among the rows; their number where there is none.
+pub fn writers(table: &[u64], rows: &[u64], out: &mut [u64])
+    requires { ⌜ Within (now table) (now rows) ⌝ }
+    requires { ⌜ length (now rows) ≤ largestCount ⌝ }
+    requires { ⌜ length (now out) ≡ length (now rows) ⌝ }
+    ensures { λ _. ⌜ now (out .exit) ≡ map (writerOf (now (table .entry)) (now (rows .entry))) (now (rows .entry)) ⌝ }
+{
+    if rows.len() <= FEW {
+        writers_few(table, rows, out);
+        return;
+    }
+    writers_many(table, rows, out);
 }

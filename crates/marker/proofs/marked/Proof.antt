@@ -1,99 +1,61 @@
--- The rows are those of the register by rising start, and each array is lent as long as they are.
-use Rattle.positions.proofs.Arrays.{zero-long}
-use Rattle.marker.proofs.Working.{few, front, front-in, listed, work-takes}
+use native.Mathlib.Omega.{arith}
+use Rattle.marker.proofs.Working.{few, front, front-in, listed, rows-take}
 use borrow.Author.Needs.{needs}
 use Rattle.marker.proofs.marked.Statement.{statement}
 use Rattle.marker.proofs.marked.Tie as tie
+use Rattle.marker.proofs.marked.Reads as reads
+use Rattle.marker.proofs.marked.Lts as lts
+use Rattle.columns.proofs.rows_by_start.Reads as rows-by-start-reads
+use Rattle.marker.proofs.mark_few.Reads as mark-few-reads
+use Rattle.marker.proofs.mark_many.Reads as mark-many-reads
 
+-- src/lib.rt:225:53
 slice-aggregate-rows-by-start : tie.Need-slice-aggregate-rows-by-start
 slice-aggregate-rows-by-start c = search needs
 
+-- src/lib.rt:225:9
 rows-by-start-requires : tie.Need-rows-by-start-requires
 rows-by-start-requires c κs = search needs
 
+-- src/lib.rt:227:32
 array-share-prefix-rows : tie.Need-array-share-prefix-rows
-array-share-prefix-rows c = front-in _ _ (front _ _ _ _ (c .before .before .before .before .before .pre) _ _ (c .before .rows-by-start .kept .1 .1 .0) (c .before .rows-by-start .ensures))
+array-share-prefix-rows c = search needs
 
-slice-aggregate-work : tie.Need-slice-aggregate-work
-slice-aggregate-work c =
-    let q = c .before .before .before .before .before .before .pre in
-    let r = c .before .before .rows-by-start in
-    front _ _ _ _ q _ _ (r .kept .1 .1 .0) (r .ensures)
+-- src/lib.rt:227:32
+slice-aggregate-mark-few : tie.Need-slice-aggregate-mark-few
+slice-aggregate-mark-few c = front _ _ _ _ (c .before .before .before .before .before .before .before .pre) _ _ (c .before .before .before .rows-by-start .kept .1 .1 .0) (c .before .before .before .rows-by-start .ensures)
 
-array-borrow-prefix-start : tie.Need-array-borrow-prefix-start
-array-borrow-prefix-start c =
-    let q = c .before .before .before .before .before .before .pre in
-    let r = c .before .before .rows-by-start in
-    few _ _ _ _ q _ _ (r .kept .1 .1 .0) (r .ensures)
+-- src/lib.rt:227:9
+mark-few-requires : tie.Need-mark-few-requires
+mark-few-requires c κs = let t = rows-take _ _ _ _ (c .before .before .before .before .before .before .before .before .pre) _ _ (c .before .before .before .before .rows-by-start .kept .1 .1 .0) (c .before .before .before .before .rows-by-start .ensures) in (t .0, (omega (arith, front _ _ _ _ (c .before .before .before .before .before .before .before .before .pre) _ _ (c .before .before .before .before .rows-by-start .kept .1 .1 .0) (c .before .before .before .before .rows-by-start .ensures)), t .1))
 
-slice-aggregate-work-2 : tie.Need-slice-aggregate-work-2
-slice-aggregate-work-2 c =
-    let q = c .before .before .before .before .before .before .before .pre in
-    let r = c .before .before .before .rows-by-start in
-    zero-long _ (few _ _ _ _ q _ _ (r .kept .1 .1 .0) (r .ensures))
-
-array-borrow-prefix-finish : tie.Need-array-borrow-prefix-finish
-array-borrow-prefix-finish c =
-    let q = c .before .before .before .before .before .before .before .pre in
-    let r = c .before .before .before .rows-by-start in
-    few _ _ _ _ q _ _ (r .kept .1 .1 .0) (r .ensures)
-
-slice-aggregate-work-3 : tie.Need-slice-aggregate-work-3
-slice-aggregate-work-3 c =
-    let q = c .before .before .before .before .before .before .before .before .pre in
-    let r = c .before .before .before .before .rows-by-start in
-    zero-long _ (few _ _ _ _ q _ _ (r .kept .1 .1 .0) (r .ensures))
-
-array-borrow-prefix-writer : tie.Need-array-borrow-prefix-writer
-array-borrow-prefix-writer c =
-    let q = c .before .before .before .before .before .before .before .before .pre in
-    let r = c .before .before .before .before .rows-by-start in
-    few _ _ _ _ q _ _ (r .kept .1 .1 .0) (r .ensures)
-
-slice-aggregate-work-4 : tie.Need-slice-aggregate-work-4
-slice-aggregate-work-4 c =
-    let q = c .before .before .before .before .before .before .before .before .before .pre in
-    let r = c .before .before .before .before .before .rows-by-start in
-    zero-long _ (few _ _ _ _ q _ _ (r .kept .1 .1 .0) (r .ensures))
-
-array-borrow-prefix-last : tie.Need-array-borrow-prefix-last
-array-borrow-prefix-last c =
-    let q = c .before .before .before .before .before .before .before .before .before .pre in
-    let r = c .before .before .before .before .before .rows-by-start in
-    few _ _ _ _ q _ _ (r .kept .1 .1 .0) (r .ensures)
-
-slice-aggregate-work-5 : tie.Need-slice-aggregate-work-5
-slice-aggregate-work-5 c =
-    let q = c .before .before .before .before .before .before .before .before .before .before .pre in
-    let r = c .before .before .before .before .before .before .rows-by-start in
-    zero-long _ (few _ _ _ _ q _ _ (r .kept .1 .1 .0) (r .ensures))
-
-array-borrow-prefix-prev : tie.Need-array-borrow-prefix-prev
-array-borrow-prefix-prev c =
-    let q = c .before .before .before .before .before .before .before .before .before .before .pre in
-    let r = c .before .before .before .before .before .before .rows-by-start in
-    few _ _ _ _ q _ _ (r .kept .1 .1 .0) (r .ensures)
-
-slice-aggregate-work-6 : tie.Need-slice-aggregate-work-6
-slice-aggregate-work-6 c =
-    let q = c .before .before .before .before .before .before .before .before .before .before .before .pre in
-    let r = c .before .before .before .before .before .before .before .rows-by-start in
-    zero-long _ (few _ _ _ _ q _ _ (r .kept .1 .1 .0) (r .ensures))
-
-work-requires : tie.Need-work-requires
-work-requires c κs =
-    let q = c .before .before .before .before .before .before .before .before .before .before .before .before .pre in
-    let r = c .before .before .before .before .before .before .before .before .rows-by-start in
-    work-takes _ _ _ _ q _ _ (r .kept .1 .1 .0) (r .ensures)
-
+-- src/lib.rt:227:9
 same-length : tie.Need-same-length
 same-length c = search needs
 
+-- src/lib.rt:227:9
 returns : tie.Need-returns
-returns c =
-    let q = c .before .before .before .before .before .before .before .before .before .before .before .before .before .before .before .before .before .before .before .before .pre in
-    let r = c .before .before .before .before .before .before .before .before .before .before .before .before .before .before .before .before .rows-by-start in
-    c .before .before .before .before .before .before .before .work .ensures _ (listed _ _ _ _ q _ _ (r .kept .1 .1 .0) (r .ensures))
+returns c = c .before .before .mark-few .ensures _ (listed _ _ _ _ (c .before .before .before .before .before .before .before .before .before .before .before .pre) _ _ (c .before .before .before .before .before .before .before .rows-by-start .kept .1 .1 .0) (c .before .before .before .before .before .before .before .rows-by-start .ensures))
+
+-- src/lib.rt:229:22
+array-share-prefix-rows-2 : tie.Need-array-share-prefix-rows-2
+array-share-prefix-rows-2 c = front-in _ _ (front _ _ _ _ (c .before .before .before .before .before .before .pre) _ _ (c .before .before .rows-by-start .kept .1 .1 .0) (c .before .before .rows-by-start .ensures))
+
+-- src/lib.rt:229:22
+slice-aggregate-mark-many : tie.Need-slice-aggregate-mark-many
+slice-aggregate-mark-many c = front _ _ _ _ (c .before .before .before .before .before .before .before .pre) _ _ (c .before .before .before .rows-by-start .kept .1 .1 .0) (c .before .before .before .rows-by-start .ensures)
+
+-- src/lib.rt:229:5
+mark-many-requires : tie.Need-mark-many-requires
+mark-many-requires c κs = let t = rows-take _ _ _ _ (c .before .before .before .before .before .before .before .before .pre) _ _ (c .before .before .before .before .rows-by-start .kept .1 .1 .0) (c .before .before .before .before .rows-by-start .ensures) in (t .0, (omega (arith, front _ _ _ _ (c .before .before .before .before .before .before .before .before .pre) _ _ (c .before .before .before .before .rows-by-start .kept .1 .1 .0) (c .before .before .before .before .rows-by-start .ensures), few _ _ _ _ (c .before .before .before .before .before .before .before .before .pre) _ _ (c .before .before .before .before .rows-by-start .kept .1 .1 .0) (c .before .before .before .before .rows-by-start .ensures)), t .1))
+
+-- src/lib.rt:220:1
+same-length-2 : tie.Need-same-length-2
+same-length-2 c = search needs
+
+-- src/lib.rt:220:1
+returns-2 : tie.Need-returns-2
+returns-2 c = c .before .before .mark-many .ensures _ (listed _ _ _ _ (c .before .before .before .before .before .before .before .before .before .before .before .pre) _ _ (c .before .before .before .before .before .before .before .rows-by-start .kept .1 .1 .0) (c .before .before .before .before .before .before .before .rows-by-start .ensures))
 
 pub marked-spec : {M : Type 1} → statement M
 marked-spec =
@@ -102,17 +64,12 @@ marked-spec =
     slice-aggregate-rows-by-start
     rows-by-start-requires
     array-share-prefix-rows
-    slice-aggregate-work
-    array-borrow-prefix-start
-    slice-aggregate-work-2
-    array-borrow-prefix-finish
-    slice-aggregate-work-3
-    array-borrow-prefix-writer
-    slice-aggregate-work-4
-    array-borrow-prefix-last
-    slice-aggregate-work-5
-    array-borrow-prefix-prev
-    slice-aggregate-work-6
-    work-requires
+    slice-aggregate-mark-few
+    mark-few-requires
     same-length
-    returns)
+    returns
+    array-share-prefix-rows-2
+    slice-aggregate-mark-many
+    mark-many-requires
+    same-length-2
+    returns-2)

@@ -3,8 +3,8 @@ use mathlib.Core.Path.{sym}
 use native.Mathlib.Omega.{arith}
 use lib.Seq.{length-take-le}
 use borrow.Author.Needs.{needs}
-use Rattle.writers.proofs.writers.Statement.{statement}
-use Rattle.writers.proofs.writers.Tie as tie
+use Rattle.writers.proofs.writers_few.Statement.{statement}
+use Rattle.writers.proofs.writers_few.Tie as tie
 
 array-borrow-prefix-values : tie.Need-array-borrow-prefix-values
 array-borrow-prefix-values c = search needs
@@ -35,8 +35,8 @@ same-length c = search needs
 returns : tie.Need-returns
 returns c = search needs
 
-pub writers-spec : {M : Type 1} → statement M
-writers-spec =
+pub writers-few-spec : {M : Type 1} → statement M
+writers-few-spec =
     tie.close
     (tie.spec
     array-borrow-prefix-values
