@@ -16,7 +16,7 @@ use Rattle.lists.proofs.Maps.{in-map, map-in}
 use Rattle.lists.proofs.Ranges.{below-in, in-below}
 use Rattle.lists.proofs.Sorts.{in-sort, sort-in, sort-length, sort-ordered}
 use Rattle.history.specs.Table.{RowOf, rowCount}
-use Rattle.summary.proofs.Columns.{from-long}
+use Rattle.lists.proofs.Ranges.{from-length}
 use Rattle.summary.specs.Registers.{others, distinct, registerAt, registerColumn, registers}
 
 -- what follows x is in the list, and above x
@@ -119,4 +119,4 @@ module _ (t : List ℕ) where
   pub registers-few : length (registers t) ≤ rowCount t
   unfolding registers
   registers-few =
-      omega (arith, distinct-few (sort leb (registerColumn t)), sort-length leb (registerColumn t), length-map (upTo (rowCount t)) (registerAt t), from-long 0 (rowCount t))
+      omega (arith, distinct-few (sort leb (registerColumn t)), sort-length leb (registerColumn t), length-map (upTo (rowCount t)) (registerAt t), from-length 0 (rowCount t))

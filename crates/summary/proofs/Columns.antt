@@ -1,30 +1,19 @@
 -- The column of registers, the rows by register, and the registers that these give.
 -- Assumes nothing.
-use Prim.Native.Nat.{ℕ, zero, suc, _+_, _≤_, _<_}
-use mathlib.Core.Path.{_≡_, refl, sym, ap, _∙_}
+use Prim.Native.Nat.{ℕ, _+_, _≤_, _<_}
+use mathlib.Core.Path.{_≡_, sym, ap, _∙_}
 use mathlib.Core.List.{List, map, map-id}
 use native.Mathlib.Omega.{arith}
 use lib.Dec.{leb}
 use lib.ListN.{length, getD, set, take, length-map}
-use lib.Seq.{ext-getD}
 use Rattle.lists.specs.Lists.{from, upTo}
 use Rattle.lists.specs.Sorts.{sort}
-use Rattle.lists.proofs.Images.{sort-map, getD-map}
+use Rattle.lists.proofs.Images.{sort-map}
 use Rattle.history.specs.Table.{rowCount}
+use Rattle.lists.proofs.Ranges.{from-length, from-at, at-each}
 use Rattle.lists.proofs.Filled.{Filled, filled-none, filled-more, filled-end}
 use Rattle.sorting.specs.Keys.{rises}
 use Rattle.summary.specs.Registers.{registerAt, registerColumn, distinct, registers}
-
-pub from-long : (i n : ℕ) → length (from i n) ≡ n
-unfolding from
-from-long i zero = refl
-from-long i (suc n) = ap suc (from-long (suc i) n)
-
-from-at : (i n j : ℕ) → j < n → getD (from i n) j 0 ≡ i + j
-unfolding from
-from-at i zero j h = absurd (omega arith)
-from-at i (suc n) zero h = omega arith
-from-at i (suc n) (suc j) h = from-at (suc i) n j (omega arith) ∙ omega arith
 
 pub upTo-at : (n j : ℕ) → j < n → j ≡ getD (upTo n) j 0
 upTo-at n j h = sym (from-at 0 n j h ∙ omega arith)
@@ -40,17 +29,17 @@ module _ (t keys₀ rows₀ : List ℕ) where
 
   module _ (p : length keys₀ ≡ n) (q : length rows₀ ≡ n) where
     keys-long : length keys₀ ≡ length (upTo n)
-    keys-long = p ∙ sym (from-long 0 n)
+    keys-long = p ∙ sym (from-length 0 n)
 
     rows-long : length rows₀ ≡ length (upTo n)
-    rows-long = q ∙ sym (from-long 0 n)
+    rows-long = q ∙ sym (from-length 0 n)
 
     pub listed-none : Listed 0 keys₀ rows₀
     listed-none = record { keyed = filled-none _ _ _ keys-long; counted = filled-none _ _ _ rows-long }
 
     pub listed-more : (i v : ℕ) (keys rows : List ℕ) → i < n → v ≡ registerAt t i → Listed i keys rows → Listed (i + 1) (set keys i v) (set rows i i)
     listed-more i v keys rows h e l =
-        let k : i < length (upTo n) = omega (arith, from-long 0 n) in
+        let k : i < length (upTo n) = omega (arith, from-length 0 n) in
         record {
           keyed = filled-more _ _ _ keys-long i v keys k (e ∙ ap (registerAt t) (upTo-at n i h)) (l .keyed);
           counted = filled-more _ _ _ rows-long i i rows k (upTo-at n i h) (l .counted);
@@ -58,20 +47,14 @@ module _ (t keys₀ rows₀ : List ℕ) where
 
     pub listed-end : (i : ℕ) (keys rows : List ℕ) → n ≤ i → Listed i keys rows → (keys ≡ registerColumn t) × (rows ≡ upTo n)
     listed-end i keys rows h l =
-        let k : length (upTo n) ≤ i = omega (arith, from-long 0 n) in (
+        let k : length (upTo n) ≤ i = omega (arith, from-length 0 n) in (
           filled-end _ _ _ keys-long i keys k (l .keyed),
           filled-end _ _ _ rows-long i rows k (l .counted) ∙ map-id (upTo n),
         )
 
 -- a list is what stands at its places
 all-places : (l : List ℕ) (n : ℕ) → length l ≡ n → map (λ (j : ℕ). getD l j 0) (upTo n) ≡ l
-all-places l n e = ext-getD 0 (map at (upTo n)) l (long ∙ sym e) (λ i h. getD-map at (upTo n) i 0 0 (omega (arith, h, long, from-long 0 n)) ∙ ap at (sym (upTo-at n i (omega (arith, h, long)))))
-  where
-    at : ℕ → ℕ
-    at j = getD l j 0
-
-    long : length (map at (upTo n)) ≡ n
-    long = length-map (upTo n) at ∙ from-long 0 n
+all-places l n e = ap (λ (k : ℕ). map (λ (j : ℕ). getD l j 0) (upTo k)) (sym e) ∙ at-each l
 
 -- the rows by register, and the register of each: the registers of the rows, sorted
 pub sorted-column : (t keys rows list : List ℕ) → keys ≡ registerColumn t → rows ≡ sort (rises keys) (upTo (rowCount t)) →
@@ -80,7 +63,7 @@ sorted-column t keys rows list e r m =
     m
     ∙ ap (map key) r
     ∙ sym (sort-map key leb (upTo (rowCount t)))
-    ∙ ap (sort leb) (all-places keys (rowCount t) (ap length e ∙ length-map (upTo (rowCount t)) (registerAt t) ∙ from-long 0 (rowCount t)) ∙ e)
+    ∙ ap (sort leb) (all-places keys (rowCount t) (ap length e ∙ length-map (upTo (rowCount t)) (registerAt t) ∙ from-length 0 (rowCount t)) ∙ e)
   where
     key : ℕ → ℕ
     key j = getD keys j 0
