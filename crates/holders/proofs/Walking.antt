@@ -2,16 +2,15 @@
 -- Assumes nothing.
 use Prim.Native.Nat.{ℕ, _-_, _%_, _≤_, _<_}
 use mathlib.Core.Path.{_≡_, refl, ap, sym, _∙_}
-use mathlib.Core.Logic.{_⊎_, inl, inr, _≢_}
+use mathlib.Core.Logic.{_⊎_, inl, inr}
 use mathlib.Core.List.{List}
 use native.Mathlib.Omega.{arith}
 use mathlib.Core.Bool.{Bool, true, false}
 use lib.Dec.{ltb}
 use borrow.Author.Tests.{ltb-true, ltb-false}
-use lib.ListN.{length, getD}
+use lib.ListN.{getD}
 use Rattle.sorting.specs.Firsts.{First}
-use Rattle.holders.specs.Buckets.{bucketOf, Held, Last, Started, Finds}
-use Rattle.holders.specs.declared.Seen.{Seen}
+use Rattle.holders.specs.Buckets.{bucketOf, Held, Last, Started}
 
 -- below e, no first place from k on has e's key; and k is a link of e's bucket
 pub record Walking (keys : List ℕ) (e k : ℕ) : Type 0 where

@@ -18,7 +18,7 @@ use Rattle.history.specs.declared.Answer.{Answer}
 use Rattle.history.specs.Answer.{firstMet, passed}
 use Rattle.history.proofs.Rows.{in-rows, rows-rise, rows-few, history-count}
 use Rattle.writers.specs.Writers.{rowOp}
-use Rattle.screening.specs.Tests.{rowTests, Stamped, Listed, Ready, Quiet}
+use Rattle.screening.specs.Tests.{rowTests, Stamped, Listed, Quiet}
 
 module _ (t : List ℕ) (register : ℕ) (list₀ : List ℕ) where
   -- the first i rows are looked at, and m of them gathered

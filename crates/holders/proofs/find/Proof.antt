@@ -2,8 +2,6 @@ use native.Mathlib.Omega.{arith}
 use Rattle.holders.proofs.Walking.{Walking, walk-none, walk-falls, walk-on, walk-found, walk-end}
 use Rattle.holders.proofs.find.Statement.{statement}
 use Rattle.holders.proofs.find.Tie as tie
-use Rattle.holders.proofs.find.Reads as reads
-use Rattle.holders.proofs.find.Lts as lts
 
 abbrev Inv-loop : tie.InvT-loop
 Inv-loop keys next e link steps key k₀ left₀ k left = Walking keys e k

@@ -6,10 +6,6 @@ use borrow.Author.Needs.{needs}
 use Rattle.holders.proofs.Hashing.{Hashing, hash-none, hash-end, hash-started, hash-found, hash-new}
 use Rattle.holders.proofs.hash.Statement.{statement}
 use Rattle.holders.proofs.hash.Tie as tie
-use Rattle.holders.proofs.hash.Reads as reads
-use Rattle.holders.proofs.hash.Lts as lts
-use Rattle.holders.proofs.bucket.Reads as bucket-reads
-use Rattle.holders.proofs.find.Reads as find-reads
 
 abbrev Inv-loop : tie.InvT-loop
 Inv-loop keys heads₀ next₀ out₀ n left₀ e₀ heads next out left e = Hashing keys e heads next out heads₀ next₀ out₀

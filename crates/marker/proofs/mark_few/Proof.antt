@@ -4,9 +4,6 @@ use Rattle.marker.proofs.Working.{room-of}
 use borrow.Author.Needs.{needs}
 use Rattle.marker.proofs.mark_few.Statement.{statement}
 use Rattle.marker.proofs.mark_few.Tie as tie
-use Rattle.marker.proofs.mark_few.Reads as reads
-use Rattle.marker.proofs.mark_few.Lts as lts
-use Rattle.marker.proofs.work.Reads as work-reads
 
 -- src/lib.rt:180:9
 array-borrow-prefix-start : tie.Need-array-borrow-prefix-start

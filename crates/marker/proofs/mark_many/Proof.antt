@@ -4,9 +4,6 @@ use Rattle.marker.proofs.Working.{room-of}
 use borrow.Author.Needs.{needs}
 use Rattle.marker.proofs.mark_many.Statement.{statement}
 use Rattle.marker.proofs.mark_many.Tie as tie
-use Rattle.marker.proofs.mark_many.Reads as reads
-use Rattle.marker.proofs.mark_many.Lts as lts
-use Rattle.marker.proofs.work.Reads as work-reads
 
 -- src/lib.rt:208:9
 array-borrow-prefix-start : tie.Need-array-borrow-prefix-start

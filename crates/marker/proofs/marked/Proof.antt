@@ -3,11 +3,6 @@ use Rattle.marker.proofs.Working.{few, front, front-in, listed, rows-ta
 use borrow.Author.Needs.{needs}
 use Rattle.marker.proofs.marked.Statement.{statement}
 use Rattle.marker.proofs.marked.Tie as tie
-use Rattle.marker.proofs.marked.Reads as reads
-use Rattle.marker.proofs.marked.Lts as lts
-use Rattle.columns.proofs.rows_by_start.Reads as rows-by-start-reads
-use Rattle.marker.proofs.mark_few.Reads as mark-few-reads
-use Rattle.marker.proofs.mark_many.Reads as mark-many-reads
 
 -- src/lib.rt:225:53
 slice-aggregate-rows-by-start : tie.Need-slice-aggregate-rows-by-start

@@ -4,9 +4,6 @@ use lib.Seq.{length-take-le}
 use borrow.Author.Needs.{needs}
 use Rattle.screening.proofs.examine_many.Statement.{statement}
 use Rattle.screening.proofs.examine_many.Tie as tie
-use Rattle.screening.proofs.examine_many.Reads as reads
-use Rattle.screening.proofs.examine_many.Lts as lts
-use Rattle.screening.proofs.examine_rows.Reads as examine-rows-reads
 
 -- src/lib.rt:342:13
 mul-m : tie.Need-mul-m

@@ -3,11 +3,6 @@ use Rattle.screening.proofs.Loops.{gathered-few, gathered-listed, gathe
 use borrow.Author.Needs.{needs}
 use Rattle.screening.proofs.examine_register.Statement.{statement}
 use Rattle.screening.proofs.examine_register.Tie as tie
-use Rattle.screening.proofs.examine_register.Reads as reads
-use Rattle.screening.proofs.examine_register.Lts as lts
-use Rattle.screening.proofs.examine_few.Reads as examine-few-reads
-use Rattle.screening.proofs.examine_many.Reads as examine-many-reads
-use Rattle.screening.proofs.gather.Reads as gather-reads
 
 -- src/lib.rt:361:37
 slice-aggregate-gather : tie.Need-slice-aggregate-gather
