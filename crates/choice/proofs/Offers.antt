@@ -7,7 +7,7 @@ use mathlib.Core.Logic.{_⊎_, inl, inr, _≢_}
 use mathlib.Core.List.{List, [], _∷_, _++_, map, append-nil, append-assoc, List·Memᴰ as In, List·Memᴰ·head as here, List·Memᴰ·tail as there, List·Memᴰ·append-cases, Memᴰ·append-left, Memᴰ·append-right}
 use native.Mathlib.Omega.{arith}
 use native.Mathlib.Numerals.{add-one}
-use lib.ListN.{length, getD, take, set, length-append}
+use lib.ListN.{length, getD, take, set}
 use lib.Seq.{take-suc-set}
 use lib.Dec.{ltb}
 use borrow.Author.Tests.{le-ltb, ltb-false}
@@ -73,11 +73,6 @@ unfolding backward
 back-append [] b = sym (append-nil (backward b))
 back-append (x ∷ a) b = rw (back-append a b) (append-assoc (backward b) (backward a) (x ∷ []))
 
-back-length : (l : List ℕ) → length (backward l) ≡ length l
-unfolding backward
-back-length [] = refl
-back-length (x ∷ l) = simp length-append (omega (arith, back-length l))
-
 -- The two ends.
 
 pub end-in : (n : ℕ) (first : Bool) → endAt n first ≤ n
@@ -97,11 +92,6 @@ one-back : (l : List ℕ) (k : ℕ) → backward (oneAt l k) ≡ oneAt l k
 unfolding oneAt backward
 one-back l zero = refl
 one-back l (suc k) = refl
-
-pub one-length : (l : List ℕ) (k : ℕ) → length (oneAt l k) ≤ 1
-unfolding oneAt
-one-length l zero = omega arith
-one-length l (suc k) = omega arith
 
 in-one : (l : List ℕ) (k : ℕ) → k ≤ length l → {x : ℕ} → In x (oneAt l k) → In x l
 unfolding oneAt

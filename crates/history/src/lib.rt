@@ -3,7 +3,7 @@ ghost use mathlib.Core.Path.{_≡_};
 ghost use Prim.Native.Nat.{_+_, _*_, _≤_};
 ghost use lib.ListN.{length};
 ghost use lib.Dec.{eqb};
-ghost use Rattle.history.specs.Table.{rowAt, operation, opAt, bears, isWrite, isRead, precedes, dictates};
+ghost use Rattle.history.specs.Table.{rowAt, operation, opAt, bears, isWrite, isRead, precedes};
 ghost use Rattle.history.specs.Answer.{refusedBy, passed, answerAfter, listAfter};
 
 pub struct Row {
@@ -114,18 +114,6 @@ impl Op {
         ensures { λ r. ⌜ r ≡ precedes self later ⌝ }
     {
         self.finish < later.start
-    }
-
-    pub fn dictates(self, read: Op) -> bool
-        ensures { λ r. ⌜ r ≡ dictates self read ⌝ }
-    {
-        if !self.is_write() {
-            return false;
-        }
-        if !read.is_read() {
-            return false;
-        }
-        self.value == read.value
     }
 }
 

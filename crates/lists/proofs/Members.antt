@@ -48,14 +48,6 @@ module _ {A : Type 0} where
 
   -- one element more in front of a search
   module _ (p : A → Bool) (x : A) (l : List A) where
-    pub any-cons-hit : p x ≡ true → any p (x ∷ l) ≡ true
-    unfolding any
-    any-cons-hit e = rw e
-
-    pub any-cons-miss : p x ≡ false → any p (x ∷ l) ≡ any p l
-    unfolding any
-    any-cons-miss e = rw e
-
     pub first-cons-hit : (key : A → ℕ) → p x ≡ true → first key p (x ∷ l) ≡ At (key x)
     unfolding first
     first-cons-hit key e = rw e
