@@ -13,11 +13,6 @@ ghost use Rattle.choice.specs.Gives.{Gives};
 ghost use Rattle.choice.specs.Viable.{follows, Turns, viableBy};
 ghost use Rattle.choice.specs.Offered.{backward, swapIf, turned, endAt, oneAt, offer, offers, Chunk, Offered, triedBy, chosenBy};
 
-// The marks of what is to be placed, and of what is not.
-const FREE: u8 = 0;
-
-const SHUT: u8 = 1;
-
 // A trial that ends here.
 fn ended(at: usize, top: usize, failed: bool) -> Front
     ensures { λ r. ⌜ (r .at ≡ at) × (r .failed ≡ failed) ⌝ }
@@ -183,7 +178,7 @@ fn attempt(
     ensures end { λ r. ⌜ Gives (cols (now (start .entry)) (now (finish .entry)) (now (writer .entry)) (now (last .entry)) (now (prev .entry))) (triedBy (offer (now (forwards .entry)) (now (inner .entry)) flip swap ∷ []) (clustersOf (now (writer .entry)) (now (forwards .entry) ++ now (inner .entry)))) [] (now (order .exit)) r ⌝ }
     ensures marks { λ _. ⌜ Within (now (writer .entry)) (now (forwards .entry) ++ now (inner .entry)) (now (placed .exit)) ⌝ }
 {
-    freeing::paint(writer, last, prev, forwards, inner, FREE, placed);
+    freeing::paint(writer, last, prev, forwards, inner, freeing::FREE, placed);
     let m = lay_out(forwards, inner, flip, swap, turn);
     viable(
         start,
@@ -346,6 +341,6 @@ pub fn choose(
         order,
         top,
     );
-    freeing::paint(writer, last, prev, forwards, inner, SHUT, placed);
+    freeing::paint(writer, last, prev, forwards, inner, freeing::SHUT, placed);
     found
 }

@@ -242,6 +242,6 @@ pub fn cluster(
     ensures end { λ r. ⌜ (drop r (now (order .exit)) ≡ clusterAt (now (writer .entry)) w) × (r ≤ largestCount) ⌝ }
     ensures marks { λ _. ⌜ Shut (length (now (writer .entry))) (now (placed .exit)) ⌝ }
 {
-    freeing::dye(writer, last, prev, w, 0, placed);
+    freeing::dye(writer, last, prev, w, freeing::FREE, placed);
     placing::own(writer, last, prev, placed, order, Row::LARGEST_COUNT, w)
 }

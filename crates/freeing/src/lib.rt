@@ -3,8 +3,14 @@ ghost use mathlib.Core.Path.{_≡_};
 ghost use mathlib.Core.List.{_++_};
 ghost use Prim.Native.Nat.{ℕ, _≤_, _<_};
 ghost use lib.ListN.{length, getD};
+ghost use Rattle.history.specs.Table.{largestCount};
 ghost use Rattle.positions.specs.Columns.{Linked};
 ghost use Rattle.freeing.specs.Marks.{Writes, Dyed, Painted, Highest, Above};
+
+// The marks of what is to be placed, and of what is not.
+pub const FREE: u8 = 0;
+
+pub const SHUT: u8 = 1;
 
 // Marks the cluster of the write w: its reads, by the chain, and w.
 pub fn dye(writer: &[u64], last: &[u64], prev: &[u64], w: usize, mark: u8, placed: &mut [u8])
@@ -38,7 +44,7 @@ fn paint_list(writer: &[u64], last: &[u64], prev: &[u64], list: &[u64], mark: u8
     }
 }
 
-// Marks the clusters of the writes of a run and of those inside it: 0 sets them free, 1 shuts them.
+// Marks the clusters of the writes of a run and of those inside it.
 pub fn paint(
     writer: &[u64],
     last: &[u64],
@@ -59,7 +65,7 @@ pub fn paint(
 
 // The highest of a bound, a write's place plus one, and the place of its last read plus one.
 fn higher(top: u64, w: u64, read: u64) -> u64
-    requires { ⌜ w < 1024 ⌝ }
+    requires { ⌜ w < largestCount ⌝ }
     ensures { λ r. ⌜ Highest top w read r ⌝ }
 {
     let t = zones::larger(top, w + 1);
@@ -69,7 +75,7 @@ fn higher(top: u64, w: u64, read: u64) -> u64
 // A bound above the clusters of the listed writes.
 fn above_list(last: &[u64], list: &[u64], top: u64) -> u64
     requires { ⌜ ((i : ℕ) → i < length (now list) → getD (now list) i 0 < length (now last)) ⌝ }
-    requires { ⌜ length (now last) ≤ 1024 ⌝ }
+    requires { ⌜ length (now last) ≤ largestCount ⌝ }
     ensures { λ r. ⌜ Above (now (last .entry)) (now (list .entry)) top r ⌝ }
 {
     let n = list.len();
@@ -88,7 +94,7 @@ fn above_list(last: &[u64], list: &[u64], top: u64) -> u64
 pub fn above(last: &[u64], run: &[u64], inner: &[u64]) -> usize
     requires { ⌜ ((i : ℕ) → i < length (now run) → getD (now run) i 0 < length (now last)) ⌝ }
     requires { ⌜ ((i : ℕ) → i < length (now inner) → getD (now inner) i 0 < length (now last)) ⌝ }
-    requires { ⌜ length (now last) ≤ 1024 ⌝ }
+    requires { ⌜ length (now last) ≤ largestCount ⌝ }
     ensures { λ r. ⌜ Above (now (last .entry)) (now (run .entry) ++ now (inner .entry)) 0 r ⌝ }
 {
     let t = above_list(last, run, 0);

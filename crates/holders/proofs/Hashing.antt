@@ -121,7 +121,7 @@ module _ (keys heads₀ next₀ out₀ : List ℕ) (r : Room keys heads₀ next�
 
           link : (i : ℕ) → i < 4093 → (i ≡ h) ⊎ (i ≢ h) → Last keys i (e + 1) (getD (set heads h (e + 1)) i 0)
           link i c (inl p) =
-              let n : h < length heads = omega (arith, g .buckets, r .buckets) in
+              let n : h < length heads = omega (arith, g .buckets, r .chains) in
               let m : (e + 1) - 1 ≡ e = omega arith in
               rw (p, getD-set-same heads h (e + 1) 0)
               (record { within = omega arith; at = λ y. rw m (record { first = x; here = sym q }); none = λ j a d y. absurd (omega arith) })
@@ -133,7 +133,7 @@ pub empty-room : (keys out : List ℕ) → length keys ≤ 2048 → length keys 
 empty-room keys out a b =
     record {
       small = a;
-      buckets = length-replicate {A = ℕ} 4093 0;
+      chains = length-replicate {A = ℕ} 4093 0;
       links = omega (arith, length-replicate {A = ℕ} 2048 0);
       places = b;
       empty = λ h l. getD-replicate {A = ℕ} 4093 h 0 0 l;

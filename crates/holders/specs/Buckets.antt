@@ -7,8 +7,16 @@ use lib.ListN.{length, getD}
 use Rattle.sorting.specs.Firsts.{First}
 use Rattle.holders.specs.declared.Seen.{Seen}
 
+-- how many buckets there are, and the most keys
+abbrev pub buckets : ℕ
+buckets = 4093
+
+abbrev pub mostKeys : ℕ
+mostKeys = 2048
+
+-- the bucket of the key of place j
 abbrev pub bucketOf : List ℕ → ℕ → ℕ
-bucketOf keys j = getD keys j 0 % 4093
+bucketOf keys j = getD keys j 0 % buckets
 
 -- j is the first place of its key, and falls into bucket h
 pub record Held (keys : List ℕ) (h j : ℕ) : Type 0 where
@@ -36,8 +44,8 @@ pub record Finds (keys : List ℕ) (e : ℕ) (r : Seen) : Type 0 where
 
 -- what the caller shows: places for all, and empty buckets
 pub record Room (keys heads next out : List ℕ) : Type 0 where
-  pub small : length keys ≤ 2048
-  pub buckets : length heads ≡ 4093
+  pub small : length keys ≤ mostKeys
+  pub chains : length heads ≡ buckets
   pub links : length keys ≤ length next
   pub places : length keys ≤ length out
-  pub empty : (h : ℕ) → h < 4093 → getD heads h 0 ≡ 0
+  pub empty : (h : ℕ) → h < buckets → getD heads h 0 ≡ 0

@@ -27,7 +27,7 @@ pub struct Front {
     pub failed: bool,
 }
 
-// The same with the state.
+// What was tried, with the state that it left.
 pub struct Tried {
     pub state: State,
     pub asked: u64,

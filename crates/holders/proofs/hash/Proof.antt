@@ -35,7 +35,7 @@ mul-find c = omega arith
 
 -- src/lib.rt:63:41
 slice-read-find : tie.Need-slice-read-find Inv-loop μ-loop
-slice-read-find c = omega (arith, c .before .before .bucket .ensures .1, c .before .before .before .before .before .loop .inv .buckets, c .before .before .before .before .before .before .before .before .before .before .pre .buckets)
+slice-read-find c = omega (arith, c .before .before .bucket .ensures .1, c .before .before .before .before .before .loop .inv .buckets, c .before .before .before .before .before .before .before .before .before .before .pre .chains)
 
 -- src/lib.rt:63:13
 find-requires : tie.Need-find-requires Inv-loop μ-loop
@@ -97,7 +97,7 @@ mul-next c = omega arith
 
 -- src/lib.rt:74:24
 slice-read-next : tie.Need-slice-read-next Inv-loop μ-loop
-slice-read-next c = omega (arith, c .before .before .before .before .before .before .bucket .ensures .1, c .before .before .before .before .before .before .before .before .before .loop .inv .buckets, c .before .before .before .before .before .before .before .before .before .before .before .before .before .before .pre .buckets)
+slice-read-next c = omega (arith, c .before .before .before .before .before .before .bucket .ensures .1, c .before .before .before .before .before .before .before .before .before .loop .inv .buckets, c .before .before .before .before .before .before .before .before .before .before .before .before .before .before .pre .chains)
 
 -- src/lib.rt:74:13
 mul-next-2 : tie.Need-mul-next-2 Inv-loop μ-loop
@@ -117,7 +117,7 @@ mul-heads c = omega arith
 
 -- src/lib.rt:75:13
 slice-write-heads : tie.Need-slice-write-heads Inv-loop μ-loop
-slice-write-heads c = omega (arith, c .before .before .before .before .before .before .bucket .ensures .1, c .before .before .before .before .before .before .before .before .before .loop .inv .buckets, c .before .before .before .before .before .before .before .before .before .before .before .before .before .before .pre .buckets)
+slice-write-heads c = omega (arith, c .before .before .before .before .before .before .bucket .ensures .1, c .before .before .before .before .before .before .before .before .before .loop .inv .buckets, c .before .before .before .before .before .before .before .before .before .before .before .before .before .before .pre .chains)
 
 -- src/lib.rt:60:5
 loop-less-2 : tie.Need-loop-less-2 Inv-loop μ-loop
