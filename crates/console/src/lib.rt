@@ -3,7 +3,12 @@ use libc::STDERR_FILENO;
 use libc::STDOUT_FILENO;
 use text::Count;
 use text::Number;
+ghost use mathlib.Core.Path.{_≡_};
+ghost use mathlib.Core.List.{List};
+ghost use Prim.Native.Nat.{ℕ, _≤_};
+ghost use lib.ListN.{length};
 ghost use Rattle.io.specs.Counts.{Counts};
+ghost use Rattle.text.specs.Numbers.{numberIn};
 
 // How many bytes of an input stand at the front of the buffer, and whether no read failed.
 pub struct Input {
@@ -37,7 +42,7 @@ pub fn take(fd: i32, bytes: &mut [u8]) -> Input
 }
 
 // All of a file that is named, up to the buffer's length.
-pub fn take_file(path: &[u8], bytes: &mut [u8]) -> Input
+fn take_file(path: &[u8], bytes: &mut [u8]) -> Input
     ensures { λ r. ⌜ Counts (r .count) (now (bytes .exit)) ⌝ }
 {
     let fd = os::open_read(path);
@@ -96,8 +101,10 @@ pub fn take_rows(place: usize, list: &mut [u64]) -> Listing
     listed(&bytes[..n], list)
 }
 
-// The number that an argument is.
-pub fn number(place: usize) -> Number {
+// The number that an argument is, or that it is none; of a word of at most 32 bytes.
+pub fn number(place: usize) -> Number
+    ensures { λ r. ⌜ ((word : List ℕ) × (length word ≤ 32) × (r ≡ numberIn word)) ⌝ }
+{
     let mut word = [0u8; 32];
     let n = os::arg(place, &mut word);
     text::number_in(&word[..n])
