@@ -36,7 +36,7 @@ pub record Encloses (finish late list : List ℕ) (bottom top : ℕ) (out : List
   pub written : take (r .count) out ≡ keep (lies finish late bottom top) list
   pub behind : (limit : ℕ) → bottom ≤ limit → top ≤ limit → Behind finish late list (r .next) limit
 
--- the forward and the backward writes, each by low end
+-- places of the columns for the forward and the backward writes, and the backward ones by low end
 pub record Sides (finish late forwards backwards : List ℕ) : Type 0 where
   pub long : length late ≡ length finish
   pub forth : Inside finish forwards
