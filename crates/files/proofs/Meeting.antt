@@ -10,7 +10,7 @@ use Rattle.history.specs.declared.Answer.{Answer}
 use Rattle.history.specs.Answer.{number, Test, refusedOr, firstMet}
 use Rattle.history.proofs.Refusals.{NoFault, Coded, no-fault-append, no-fault-left, no-fault-right, code-no-fault, no-fault-answer, met-append}
 
-met-kept : (xs : List Test) (a b : Answer) → a .code ≡ 0 → firstMet xs a .code ≢ 0 → firstMet xs b ≡ firstMet xs a
+pub met-kept : (xs : List Test) (a b : Answer) → a .code ≡ 0 → firstMet xs a .code ≢ 0 → firstMet xs b ≡ firstMet xs a
 unfolding firstMet
 met-kept [] a b z n = absurd (n z)
 met-kept (x ∷ xs) a b z n = go (x .fault) n (met-kept xs a b z)

@@ -20,7 +20,7 @@ ghost use Rattle.files.specs.Files.{recordTests, fileAnswer, roomTest, r
 pub const LONGEST: usize = 36900;
 
 // The bytes of a record, with its length field.
-const RECORD: usize = 36;
+pub const RECORD: usize = 36;
 
 // What the length field holds: the bytes behind it.
 const BODY: u64 = 34;
@@ -32,7 +32,7 @@ fn wide(x: u8) -> u64
 }
 
 // The number of two bytes at a place, which the caller keeps within the slice.
-fn two(bytes: &[u8], at: usize) -> u64
+pub fn two(bytes: &[u8], at: usize) -> u64
     requires { ⌜ at + 2 ≤ length (now bytes) ⌝ }
     ensures { λ r. ⌜ r ≡ field (now (bytes .entry)) at 2 ⌝ }
 {
@@ -40,7 +40,7 @@ fn two(bytes: &[u8], at: usize) -> u64
 }
 
 // The number of eight bytes at a place, from the highest byte down.
-fn eight(bytes: &[u8], at: usize) -> u64
+pub fn eight(bytes: &[u8], at: usize) -> u64
     requires { ⌜ at + 8 ≤ length (now bytes) ⌝ }
     ensures { λ r. ⌜ r ≡ field (now (bytes .entry)) at 8 ⌝ }
 {
@@ -101,7 +101,7 @@ fn wrong_kind(kind: u64) -> bool
 }
 
 // How many records begin in the bytes.
-fn begun(bytes: &[u8]) -> usize
+pub fn begun(bytes: &[u8]) -> usize
     ensures { λ r. ⌜ r ≡ begun (now (bytes .entry)) ⌝ }
 {
     (bytes.len() + 35) / RECORD
@@ -133,7 +133,7 @@ fn inspect_record(bytes: &[u8], row: usize, rows: u64) -> Answer
 }
 
 // The tests at every record, in sequence.
-fn inspect(bytes: &[u8]) -> Answer
+pub fn inspect(bytes: &[u8]) -> Answer
     ensures { λ r. ⌜ r ≡ fileAnswer (now (bytes .entry)) ⌝ }
 {
     let n = begun(bytes);
@@ -149,7 +149,7 @@ fn inspect(bytes: &[u8]) -> Answer
 }
 
 // The test of the lent buffer, behind all others.
-fn room_for(rows: usize, needed: usize, room: usize) -> Answer
+pub fn room_for(rows: usize, needed: usize, room: usize) -> Answer
     ensures { λ r. ⌜ r ≡ firstMet (roomTest needed room ∷ []) (passed rows) ⌝ }
 {
     if room < needed {
@@ -158,13 +158,13 @@ fn room_for(rows: usize, needed: usize, room: usize) -> Answer
     Answer::passed(rows as u64)
 }
 
-// Puts a record's five numbers at its row of the table.
-fn read_row(bytes: &[u8], row: usize, table: &mut [u64])
-    requires { ⌜ row * 36 + 36 ≤ length (now bytes) ⌝ }
+// Puts the five numbers of the source record at a row of the table.
+pub fn read_row(bytes: &[u8], source: usize, table: &mut [u64], row: usize)
+    requires { ⌜ source * 36 + 36 ≤ length (now bytes) ⌝ }
     requires { ⌜ row * 5 + 5 ≤ length (now table) ⌝ }
-    ensures { λ _. ⌜ now (table .exit) ≡ sets (now (table .entry)) (row * 5) (cells (recordAt (now (bytes .entry)) row)) ⌝ }
+    ensures { λ _. ⌜ now (table .exit) ≡ sets (now (table .entry)) (row * 5) (cells (recordAt (now (bytes .entry)) source)) ⌝ }
 {
-    let at = row * RECORD;
+    let at = source * RECORD;
     let base = row * Row::COLUMNS;
     table[base + Row::REGISTER] = eight(bytes, at + 4);
     table[base + Row::KIND] = two(bytes, at + 2);
@@ -182,7 +182,7 @@ fn read_rows(bytes: &[u8], table: &mut [u64])
     let n = begun(bytes);
     let mut i = 0;
     while i < n {
-        read_row(bytes, i, table);
+        read_row(bytes, i, table, i);
         i += 1;
     }
 }

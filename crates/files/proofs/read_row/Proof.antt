@@ -98,7 +98,7 @@ unfolding recordAt
 returns c =
     let a = c .before .before .before .before .before .before .before .args in
     rw (c .before .before .before .before .eight .ensures, c .before .before .before .two .ensures, c .before .before .eight2 .ensures, c .before .eight3 .ensures, c .eight4 .ensures)
-    (stores-sets (cells (recordAt (a .bytes .now) (a .row))) (a .table .now) (a .row * 5) 0 (a .row * 5) (add-zero (a .row * 5)))
+    (stores-sets (cells (recordAt (a .bytes .now) (a .source))) (a .table .now) (a .row * 5) 0 (a .row * 5) (add-zero (a .row * 5)))
 
 pub read-row-spec : {M : Type 1} → statement M
 read-row-spec =

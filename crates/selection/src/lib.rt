@@ -1,0 +1,123 @@
+// One register of a history file: a pass over the bytes that keeps the numbers of its records, so that no other row is read into the table.
+use history::Answer;
+use history::Row;
+ghost use mathlib.Core.Path.{_≡_};
+ghost use mathlib.Core.List.{_++_, flatMap};
+ghost use Prim.Native.Nat.{ℕ, _+_, _*_, _≤_, _<_};
+ghost use lib.ListN.{length, getD, drop};
+ghost use Rattle.history.specs.Table.{largestCount};
+ghost use Rattle.history.proofs.Searches.{oneIf};
+ghost use Rattle.files.specs.Records.{begun, recordAt, cells};
+ghost use Rattle.selection.specs.Selected.{isSound, isOf, Regular, Picks, selectAnswer, selectTable};
+
+// The first four bytes of a sound record as one number: the length 34, and behind it the kind.
+const WRITE_HEAD: u64 = 65570;
+
+const READ_HEAD: u64 = 131106;
+
+// Whether a record has the right length field and a right kind: one comparison for both, since nearly all records have.
+fn is_sound(bytes: &[u8], row: usize) -> bool
+    requires { ⌜ row * 36 + 36 ≤ length (now bytes) ⌝ }
+    ensures { λ r. ⌜ r ≡ isSound (now (bytes .entry)) row ⌝ }
+{
+    let at = row * files::RECORD;
+    let head = files::two(bytes, at) + 65536 * files::two(bytes, at + 2);
+    if head == WRITE_HEAD {
+        return true;
+    }
+    head == READ_HEAD
+}
+
+// 1 where the record bears the register, else 0.
+fn borne(bytes: &[u8], register: u64, row: usize) -> usize
+    requires { ⌜ row * 36 + 36 ≤ length (now bytes) ⌝ }
+    ensures { λ r. ⌜ r ≡ oneIf (isOf (now (bytes .entry)) register row) ⌝ }
+{
+    let at = row * files::RECORD;
+    if files::eight(bytes, at + 4) == register {
+        return 1;
+    }
+    0
+}
+
+// How many records bear the register, where the file is sound.
+struct Picked {
+    count: usize,
+    sound: bool,
+}
+
+// The numbers of the register's records, at the front of the slice. Each number is written, and the next one over it unless the record
+// bears the register: so the loop has no branch that is hard to foresee.
+fn pick(bytes: &[u8], register: u64, picks: &mut [u16]) -> Picked
+    requires { ⌜ Regular (now bytes) ⌝ }
+    requires { ⌜ length (now picks) ≡ largestCount ⌝ }
+    ensures { λ r. ⌜ Picks (now (bytes .entry)) register (now (picks .exit)) r ⌝ }
+{
+    let n = files::begun(bytes);
+    let mut m: usize = 0;
+    let mut i: usize = 0;
+    while i < n {
+        let row = i;
+        if !is_sound(bytes, row) {
+            return Picked {
+                count: 0,
+                sound: false,
+            };
+        }
+        i += 1;
+        picks[m] = row as u16;
+        m += borne(bytes, register, row);
+    }
+    Picked {
+        count: m,
+        sound: true,
+    }
+}
+
+// The same of any file.
+fn choose(bytes: &[u8], register: u64, picks: &mut [u16]) -> Picked
+    requires { ⌜ length (now picks) ≡ largestCount ⌝ }
+    ensures { λ r. ⌜ Picks (now (bytes .entry)) register (now (picks .exit)) r ⌝ }
+{
+    let n = files::begun(bytes);
+    if bytes.len() == n * files::RECORD {
+        if n <= Row::LARGEST_COUNT {
+            return pick(bytes, register, picks);
+        }
+    }
+    Picked {
+        count: 0,
+        sound: false,
+    }
+}
+
+// Puts the rows of some records at the front of the table.
+fn copy(bytes: &[u8], picks: &[u16], table: &mut [u64])
+    requires { ⌜ ((k : ℕ) → k < length (now picks) → getD (now picks) k 0 * 36 + 36 ≤ length (now bytes)) ⌝ }
+    requires { ⌜ length (now picks) * 5 ≤ length (now table) ⌝ }
+    ensures { λ _. ⌜ now (table .exit) ≡ flatMap (λ n. cells (recordAt (now (bytes .entry)) n)) (now (picks .entry)) ++ drop (length (flatMap (λ n. cells (recordAt (now (bytes .entry)) n)) (now (picks .entry)))) (now (table .entry)) ⌝ }
+{
+    let mut i: usize = 0;
+    while i < picks.len() {
+        files::read_row(bytes, picks[i] as usize, table, i);
+        i += 1;
+    }
+}
+
+// Reads the rows of one register into the front of the table, which needs room for these alone. The whole file is inspected all the same.
+pub fn read(bytes: &[u8], register: u64, table: &mut [u64]) -> Answer
+    ensures { λ r. ⌜ (r ≡ selectAnswer (now (bytes .entry)) register (now (table .entry))) × (now (table .exit) ≡ selectTable (now (bytes .entry)) register (now (table .entry))) ⌝ }
+{
+    let mut picks = [0u16; Row::LARGEST_COUNT];
+    let found = choose(bytes, register, &mut picks);
+    if !found.sound {
+        return files::inspect(bytes);
+    }
+    let m = found.count;
+    let answer = files::room_for(m, m * Row::COLUMNS, table.len());
+    if answer.code != Answer::FRESH {
+        return answer;
+    }
+    copy(bytes, &picks[..m], table);
+    answer
+}
