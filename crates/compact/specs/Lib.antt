@@ -1,0 +1,2 @@
+-- Histories that differ in their row numbers alone.
+pub mod Renumbered
