@@ -1,6 +1,6 @@
 -- The table of a register's rows alone has the register's operations, renumbered from 0 on: so the code of the file's table is that of this one.
 -- Assumes nothing.
-use Prim.Native.Nat.{ℕ, _*_, _≤_, _<_}
+use Prim.Native.Nat.{ℕ, _≤_, _<_}
 use mathlib.Core.Path.{_≡_, refl, sym, ap, _∙_}
 use mathlib.Core.Logic.{_⊎_, inl, inr}
 use mathlib.Core.Bool.{Bool, true, false}
@@ -14,17 +14,17 @@ use Rattle.lists.specs.Lists.{put, keep, upTo}
 use Rattle.lists.proofs.Members.{in-keep, keep-ext, map-ext}
 use Rattle.lists.proofs.Maps.{in-map}
 use Rattle.lists.proofs.Images.{getD-in, pairs-at}
-use Rattle.lists.proofs.Counts.{keep-length}
 use Rattle.lists.proofs.Pairs.{pairs-keep}
-use Rattle.lists.proofs.Ranges.{in-below, from-rises, from-length, at-each}
+use Rattle.lists.proofs.Ranges.{in-below, from-rises, at-each}
 use Rattle.history.specs.Table.{rowAt, rowCount, operation, opAt, bears, rowsOf, history}
 use Rattle.files.specs.Records.{begun, recordAt, cells, tableOf}
-use Rattle.files.proofs.Blocks.{blocks, length-blocks, blocks-part}
+use Rattle.files.proofs.Blocks.{blocks, blocks-part}
 use Rattle.files.proofs.Records.{cells-row, length-table, count-table, table-row}
 use Rattle.files.proofs.Passing.{Whole}
 use Rattle.marks.specs.Marks.{answerTo, mostTrials}
 use Rattle.selection.specs.Selected.{isOf, recordsOf, registerTable}
 use Rattle.selection.proofs.Selecting.{flat-places}
+use Rattle.selection.proofs.Loaded.{length-register, register-few}
 use Rattle.compact.specs.Renumbered.{renumbered, Keeps}
 use Rattle.compact.proofs.Codes.{same-code}
 
@@ -58,11 +58,8 @@ module _ (bs : List ℕ) (register : ℕ) where
   unfolding registerTable
   parts = sym (flat-places (λ n. cells (recordAt bs n)) rows)
 
-  length-part : length u ≡ m * 5
-  length-part = ap length parts ∙ length-blocks (λ j. cells (recordAt bs (nth j))) 5 (λ i. refl) m
-
   count-part : rowCount u ≡ m
-  count-part = omega (arith, length-part)
+  count-part = omega (arith, length-register bs register)
 
   part-row : (j : ℕ) → j < m → rowAt u j ≡ recordAt bs (nth j)
   part-row j l = cells-row u j (recordAt bs (nth j)) (rw parts (blocks-part (λ j. cells (recordAt bs (nth j))) 5 (λ i. refl) m j l))
@@ -129,7 +126,5 @@ module _ (bs : List ℕ) (register : ℕ) where
 
   -- THE CODE OF THE WHOLE FILE'S TABLE is that of the register's rows alone.
   pub compact-code : Whole bs → (question : ℕ) → answerTo t register question mostTrials .code ≡ answerTo u register question mostTrials .code
-  unfolding recordsOf
   compact-code w question =
-      let few : m ≤ begun bs = omega (arith, keep-length (isOf bs register) (upTo (begun bs)), from-length 0 (begun bs)) in
-      same-code t u register question nth keeps same-history (omega (arith, length-table bs)) (omega (arith, count-table bs, w .few)) (omega (arith, length-part)) (omega (arith, count-part, few, w .few))
+      same-code t u register question nth keeps same-history (omega (arith, length-table bs)) (omega (arith, count-table bs, w .few)) (omega (arith, length-register bs register)) (omega (arith, count-part, register-few bs register, w .few))

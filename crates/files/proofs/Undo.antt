@@ -11,7 +11,7 @@ use Rattle.history.specs.Table.{largestCount, rowAt, rowCount, operation, opAt}
 use Rattle.history.specs.Answer.{number, short-list, passed}
 use Rattle.history.specs.Screen.{wrongKind}
 use Rattle.files.specs.Records.{Bytes, Words, begun, recordAt, recordOf, cells, tableOf, fileOf}
-use Rattle.files.specs.Files.{fileTests, readAnswer, readTable, writeAnswer, writeBytes}
+use Rattle.files.specs.Files.{fileAnswer, fileTests, readAnswer, readTable, writeAnswer, writeBytes}
 use Rattle.files.proofs.Blocks.{blocks-whole}
 use Rattle.files.proofs.Meeting.{met-code}
 use Rattle.files.proofs.Records.{Fitting, row-cells, record-length, record-row, row-record, length-table, count-table, table-row, length-file, count-file, file-record}
@@ -97,11 +97,14 @@ written-read bs table out bytes z h =
 pub read-long : (bs table : List ℕ) → readAnswer bs table .code ≡ 0 → (length (tableOf bs) ≡ begun bs * 5) × (begun bs ≤ largestCount) × (begun bs * 5 ≤ length table)
 read-long bs table z = let w = read-whole bs table z in (length-table bs, w .0 .few, w .1)
 
+-- A file's own tests never give the code of a short list.
+pub file-fits : (bs : List ℕ) → fileAnswer bs .code ≢ number short-list
+file-fits bs =
+    met-code (λ c. c ≢ 10) (fileTests bs) (passed (begun bs)) (file-codes (λ c. c ≢ 10) (λ e. omega arith) (λ e. omega arith) (λ e. omega arith) bs) (λ e. omega arith)
+
 -- A table of 5,120 places is never too short, and its contents and length do not matter.
 pub read-fits : (bs table : List ℕ) → 5120 ≤ length table → readAnswer bs table .code ≢ number short-list
-read-fits bs table h =
-    rw (read-room bs table h)
-    (met-code (λ c. c ≢ 10) (fileTests bs) (passed (begun bs)) (file-codes (λ c. c ≢ 10) (λ e. omega arith) (λ e. omega arith) (λ e. omega arith) bs) (λ e. omega arith))
+read-fits bs table h = rw (read-room bs table h) (file-fits bs)
 
 pub read-same : (bs table other : List ℕ) → 5120 ≤ length table → 5120 ≤ length other → readAnswer bs table ≡ readAnswer bs other
 read-same bs table other h k = read-room bs table h ∙ sym (read-room bs other k)

@@ -10,31 +10,39 @@ use borrow.Author.Tests.{eq-eqb, ne-eqb}
 use Rattle.history.specs.declared.Answer.{Answer}
 use Rattle.history.specs.Answer.{number, short-list}
 use Rattle.files.specs.Records.{tableOf}
-use Rattle.files.specs.Files.{fileAnswer, readAnswer}
-use Rattle.files.proofs.Undo.{read-fits}
-use Rattle.files.proofs.Loading.{loaded-as}
-use Rattle.marks.specs.Marks.{answerTo, mostTrials, Ample, Said}
-use Rattle.host.specs.Host.{hostCode}
+use Rattle.files.specs.Files.{fileAnswer}
+use Rattle.files.proofs.Passing.{whole-answer}
+use Rattle.files.proofs.Undo.{file-fits}
+use Rattle.marks.specs.Marks.{answerTo, mostTrials}
+use Rattle.marks.proofs.Saying.{answer-said, never-ten}
+use Rattle.selection.specs.Selected.{registerTable, selectAnswer}
+use Rattle.selection.proofs.Loaded.{Cases, is-file, is-short, is-read, cases?, register-few, loaded-whole}
+use Rattle.compact.proofs.Tables.{compact-code}
+use Rattle.host.specs.Host.{hostCode, Given}
 
-module _ (bytes table : List ℕ) (long : 5120 ≤ length table) (register question : ℕ) (a : Answer) (e : a ≡ readAnswer bytes table) where
-  abbrev Given : ℕ → Type 0
-  Given r = (r ≡ hostCode bytes register question) × ((fileAnswer bytes .code ≡ 0 → Said (tableOf bytes) register question r) × (r ≢ number short-list))
-
-  code : a .code ≡ fileAnswer bytes .code
-  code = ap (λ x. x .code) (loaded-as bytes table a e long)
-
-  -- the file is refused
-  pub entry-refused : a .code ≢ 0 → Given (a .code)
+module _ (bytes table : List ℕ) (register question : ℕ) (a : Answer) (e : a ≡ selectAnswer bytes register table) where
+  -- the file is refused, or the table is too short
+  pub entry-refused : a .code ≢ 0 → (a .code ≢ number short-list → Given bytes register question (a .code)) × (5120 ≤ length table → a .code ≢ number short-list)
   unfolding hostCode
-  entry-refused n =
-      let w = ne-eqb (fileAnswer bytes .code) 0 (λ z. n (code ∙ z)) in
-      (code ∙ sym (rw w refl), (λ z. absurd (n (code ∙ z)), λ z. read-fits bytes table long (sym (ap (λ x. x .code) e) ∙ z)))
+  entry-refused n = go (cases? bytes register table a e)
+    where
+      go : Cases bytes register table a → (a .code ≢ number short-list → Given bytes register question (a .code)) × (5120 ≤ length table → a .code ≢ number short-list)
+      go (is-file m q) =
+          let code : a .code ≡ fileAnswer bytes .code = ap (λ x. x .code) q in
+          (λ s. (code ∙ sym (rw (ne-eqb (fileAnswer bytes .code) 0 m) refl), (λ z. absurd (m z), s)), λ l y. file-fits bytes (sym code ∙ y))
+      go (is-short q l w) = (λ s. absurd (s q), λ k. absurd (omega (arith, k, l, register-few bytes register, w .few)))
+      go (is-read w q l) = absurd (n (ap (λ x. x .code) q))
 
   -- the register is marked
-  module _ (m : Answer) (t : List ℕ) (same : t ≡ tableOf bytes) where
-    pub entry-marked : a .code ≡ 0 →
-        (m ≡ answerTo t register question mostTrials) × ((Ample question mostTrials → Said t register question (m .code)) × (m .code ≢ number short-list)) → Given (m .code)
-    unfolding hostCode
-    entry-marked z p =
-        let w = eq-eqb (fileAnswer bytes .code) 0 (sym code ∙ z) in
-        (ap (λ x. x .code) (p .0) ∙ ap (λ x. answerTo x register question mostTrials .code) same ∙ sym (rw w refl), (λ y. rw same at (p .1 .0 (λ q. omega arith)), p .1 .1))
+  pub entry-marked : a .code ≡ 0 → (m : Answer) (t : List ℕ) → t ≡ registerTable bytes register → m ≡ answerTo t register question mostTrials →
+      (m .code ≢ number short-list → Given bytes register question (m .code)) × (5120 ≤ length table → m .code ≢ number short-list)
+  unfolding hostCode
+  entry-marked z m t same p =
+      let w = loaded-whole bytes register table a e z in
+      let passes = ap (λ x. x .code) (whole-answer bytes w) in
+      let code : m .code ≡ answerTo (tableOf bytes) register question mostTrials .code =
+      ap (λ x. x .code) p ∙ ap (λ x. answerTo x register question mostTrials .code) same ∙ sym (compact-code bytes register w question) in
+      let short : m .code ≢ number short-list = λ y. never-ten (tableOf bytes) register question mostTrials (sym code ∙ y) in (
+        λ s. (code ∙ sym (rw (eq-eqb (fileAnswer bytes .code) 0 passes) refl), (λ y. rw code (answer-said (tableOf bytes) register question mostTrials (λ q. omega arith)), short)),
+        λ l. short,
+      )

@@ -15,7 +15,7 @@ use Rattle.lists.proofs.Images.{getD-in}
 use Rattle.lists.proofs.Counts.{keep-length}
 use Rattle.lists.proofs.Ranges.{in-below, from-length, at-each}
 use Rattle.history.specs.declared.Answer.{Answer}
-use Rattle.history.specs.Answer.{firstMet, passed}
+use Rattle.history.specs.Answer.{Test, firstMet, passed}
 use Rattle.history.proofs.Refusals.{met-append, no-fault-answer, code-no-fault, if-so}
 use Rattle.files.specs.Records.{begun, recordAt, cells}
 use Rattle.files.specs.Files.{fileTests, fileAnswer, roomTest}
@@ -47,25 +47,26 @@ module _ (bs : List ℕ) (register : ℕ) (table : List ℕ) where
   unfolding selectTable
   left a e n = (e, sym (after-refused (selectAnswer bs register table) (registerTable bs register) table (λ z. n (code-of e z))))
 
-  -- a refused file
-  pub read-refused : (a : Answer) → a ≡ fileAnswer bs → (Whole bs → ⊥) → Read a table
+  abbrev room : List Test
+  room = roomTest (rows * 5) (length table) ∷ []
+
+  -- A refused file's refusal is the answer; of a sound one the test of the room has the last word.
+  pub select-refused : fileAnswer bs .code ≢ 0 → selectAnswer bs register table ≡ fileAnswer bs
   unfolding selectAnswer selectTests
+  select-refused n = met-append (fileTests bs) room (passed rows) ∙ met-kept (fileTests bs) (passed (begun bs)) (firstMet room (passed rows)) refl n
+
+  pub select-sound : Whole bs → selectAnswer bs register table ≡ firstMet room (passed rows)
+  unfolding selectAnswer selectTests
+  select-sound w = met-append (fileTests bs) room (passed rows) ∙ no-fault-answer (fileTests bs) (firstMet room (passed rows)) (whole-file bs w)
+
+  pub read-refused : (a : Answer) → a ≡ fileAnswer bs → (Whole bs → ⊥) → Read a table
   read-refused a e n =
       let code : fileAnswer bs .code ≢ 0 = λ z. n (code-whole bs z) in
-      let room = roomTest (rows * 5) (length table) ∷ [] in
-      left a
-      (e ∙ sym (met-append (fileTests bs) room (passed rows) ∙ met-kept (fileTests bs) (passed (begun bs)) (firstMet room (passed rows)) refl code))
-      (λ z. code (sym (ap (λ x. x .code) e) ∙ z))
+      left a (e ∙ sym (select-refused code)) (λ z. code (sym (ap (λ x. x .code) e) ∙ z))
 
-  -- a sound file: the test of the room has the last word
   module _ (w : Whole bs) (m : ℕ) (count : m ≡ rows) (a : Answer) (e : a ≡ firstMet (roomTest (m * 5) (length table) ∷ []) (passed m)) where
     judged : a ≡ selectAnswer bs register table
-    unfolding selectAnswer selectTests
-    judged =
-        let room = roomTest (rows * 5) (length table) ∷ [] in
-        e
-        ∙ ap (λ k. firstMet (roomTest (k * 5) (length table) ∷ []) (passed k)) count
-        ∙ sym (met-append (fileTests bs) room (passed rows) ∙ no-fault-answer (fileTests bs) (firstMet room (passed rows)) (whole-file bs w))
+    judged = e ∙ ap (λ k. firstMet (roomTest (k * 5) (length table) ∷ []) (passed k)) count ∙ sym (select-sound w)
 
     pub read-short : a .code ≢ 0 → Read a table
     read-short n = left a judged n
