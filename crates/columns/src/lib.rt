@@ -39,16 +39,33 @@ fn gather(table: &[u64], register: u64, keys: &mut [u64], rows: &mut [u64]) -> u
     m
 }
 
+// So many places are few: a short array does for their keys, which is sooner cleared than the long one.
+const FEW: usize = 64;
+
+// The rows of the register by rising start, at the front of the slice, with a place for the start of each row of the table; their number.
+fn rows_with(table: &[u64], register: u64, keys: &mut [u64], rows: &mut [u64]) -> usize
+    requires { ⌜ rowCount (now table) ≤ largestCount ⌝ }
+    requires { ⌜ rowCount (now table) ≤ length (now keys) ⌝ }
+    requires { ⌜ rowCount (now table) ≤ length (now rows) ⌝ }
+    ensures { λ r. ⌜ (r ≡ length (history (now (table .entry)) register)) × (now (rows .exit) ≡ written (rowNumbers (byStart (history (now (table .entry)) register))) (now (rows .entry))) ⌝ }
+{
+    let m = gather(table, register, keys, rows);
+    sorting::sort_by(keys, &mut rows[..m]);
+    m
+}
+
 // The rows of the register by rising start, at the front of the slice; their number.
 pub fn rows_by_start(table: &[u64], register: u64, rows: &mut [u64]) -> usize
     requires { ⌜ rowCount (now table) ≤ largestCount ⌝ }
     requires { ⌜ rowCount (now table) ≤ length (now rows) ⌝ }
     ensures { λ r. ⌜ (r ≡ length (history (now (table .entry)) register)) × (now (rows .exit) ≡ written (rowNumbers (byStart (history (now (table .entry)) register))) (now (rows .entry))) ⌝ }
 {
+    if table.len() / Row::COLUMNS <= FEW {
+        let mut few = [0u64; FEW];
+        return rows_with(table, register, &mut few, rows);
+    }
     let mut keys = [0u64; Row::LARGEST_COUNT];
-    let m = gather(table, register, &mut keys[..], rows);
-    sorting::sort_by(&keys[..], &mut rows[..m]);
-    m
+    rows_with(table, register, &mut keys, rows)
 }
 
 // One of the two stamps of an operation.
@@ -175,6 +192,19 @@ fn choose(finish: &[u64], writer: &[u64], keys: &mut [u64], falling: &mut [u64])
     m
 }
 
+// The writes by falling finish, at the front of the slice, with a place for the key of each operation; their number.
+fn falls_with(finish: &[u64], writer: &[u64], keys: &mut [u64], falling: &mut [u64]) -> usize
+    requires { ⌜ length (now finish) ≡ length (now writer) ⌝ }
+    requires { ⌜ length (now writer) ≤ largestCount ⌝ }
+    requires { ⌜ length (now writer) ≤ length (now keys) ⌝ }
+    requires { ⌜ length (now writer) ≤ length (now falling) ⌝ }
+    ensures { λ r. ⌜ (r ≡ length (fallingOf (now (finish .entry)) (now (writer .entry)))) × (take r (now (falling .exit)) ≡ fallingOf (now (finish .entry)) (now (writer .entry))) ⌝ }
+{
+    let m = choose(finish, writer, keys, falling);
+    sorting::sort_by(keys, &mut falling[..m]);
+    m
+}
+
 // The writes by falling finish, at the front of the slice; their number.
 pub fn falls(finish: &[u64], writer: &[u64], falling: &mut [u64]) -> usize
     requires { ⌜ length (now finish) ≡ length (now writer) ⌝ }
@@ -182,10 +212,12 @@ pub fn falls(finish: &[u64], writer: &[u64], falling: &mut [u64]) -> usize
     requires { ⌜ length (now writer) ≤ length (now falling) ⌝ }
     ensures { λ r. ⌜ (r ≡ length (fallingOf (now (finish .entry)) (now (writer .entry)))) × (take r (now (falling .exit)) ≡ fallingOf (now (finish .entry)) (now (writer .entry))) ⌝ }
 {
+    if writer.len() <= FEW {
+        let mut few = [0u64; FEW];
+        return falls_with(finish, writer, &mut few, falling);
+    }
     let mut keys = [0u64; Row::LARGEST_COUNT];
-    let m = choose(finish, writer, &mut keys[..], falling);
-    sorting::sort_by(&keys[..], &mut falling[..m]);
-    m
+    falls_with(finish, writer, &mut keys, falling)
 }
 
 // The row at a position; 0 past the end.

@@ -1,7 +1,7 @@
 -- From the rows of a screened register to the outcome: what the search takes, that an order fits the list, and what is lent.
 -- Assumes nothing.
 use Prim.Native.Nat.{ℕ, _-_, _≤_}
-use mathlib.Core.Path.{_≡_, ap, _∙_}
+use mathlib.Core.Path.{_≡_, ap, sym, _∙_}
 use mathlib.Core.List.{List}
 use native.Mathlib.Omega.{arith}
 use lib.ListN.{length, take, drop, replicate, length-map, length-append, length-replicate, take-append-drop}
@@ -10,7 +10,7 @@ use Rattle.lists.proofs.Pairs.{pairs-map}
 use Rattle.lists.proofs.Cover.{no-longer-by}
 use Rattle.lists.proofs.Sorts.{sort-length}
 use Rattle.history.specs.declared.Op.{Op}
-use Rattle.history.specs.Table.{history}
+use Rattle.history.specs.Table.{largestCount, rowCount, history}
 use Rattle.methods.specs.Prepared.{startsFirst, byStart, prepared}
 use Rattle.methods.specs.Zones.{order}
 use Rattle.methods.specs.Mark.{Outcome, kOf, method, rowNumbers, written, judged}
@@ -19,7 +19,6 @@ use Rattle.meaning.specs.Marked.{Passes}
 use Rattle.meaning.proofs.Methods.{Settles, settles-order, method-settles}
 use Rattle.positions.specs.Columns.{Cols, size, op, ops, Sound}
 use Rattle.positions.proofs.Columns.{size-is, of-sound}
-use Rattle.positions.proofs.Arrays.{front-long}
 use Rattle.placing.specs.declared.Search.{Search}
 use Rattle.placing.specs.Searched.{found, Searched, is-stale, is-fresh, is-spent}
 use Rattle.columns.specs.Rows.{Listed}
@@ -106,21 +105,21 @@ module _ {t : List ℕ} {register : ℕ} {rows : List ℕ} (g : Listed t registe
       f C (prepared h) (method question) (m .columns register g) (prepared-rows g) k
       ∙ ap (λ (n : ℕ). judged n allowance list (method question (prepared h))) rows-long
 
--- What is lent of the local arrays, where a register passes tests 1 to 10.
-module _ (t : List ℕ) (register question : ℕ) (list : List ℕ) (p : Passes (length t) (history t register) question list) (n : ℕ) (rows : List ℕ)
-    (long : length rows ≡ length (replicate {A = ℕ} 1024 0))
-    (e : (n ≡ length (history t register)) × (rows ≡ written (rowNumbers (byStart (history t register))) (replicate 1024 0))) where
-  -- they are no more than the arrays have places
-  pub few : n ≤ 1024
+-- What is lent of the register's rows, where it passes tests 1 to 10 and each row of the table has a place.
+module _ (t : List ℕ) (register question : ℕ) (list : List ℕ) (p : Passes (length t) (history t register) question list) (n : ℕ) (rows₀ rows : List ℕ)
+    (room : rowCount t ≤ length rows₀) (long : length rows ≡ length rows₀)
+    (e : (n ≡ length (history t register)) × (rows ≡ written (rowNumbers (byStart (history t register))) rows₀)) where
+  -- they are no more than a table has
+  pub few : n ≤ largestCount
   few = omega (arith, e .0, rows-few t register, p .screened .few)
 
   -- what is lent of the rows is as long as they are
   pub front : n ≡ length (take n rows)
-  front = front-long n rows long few
+  front = sym (length-take-le n rows (omega (arith, e .0, rows-few t register)))
 
   -- it is the register's rows by rising start
   pub listed : Listed t register (take n rows)
-  listed = rows-listed t register n (replicate 1024 0) rows (p .screened) e
+  listed = rows-listed t register n rows₀ rows (p .screened) e
 
   -- what the marking of its rows takes
   pub rows-take : ((r : ℕ) × Listed t r (take n rows)) × ((length (take n rows) ≤ length list) × Asked question)

@@ -6,7 +6,7 @@ ghost use mathlib.Core.Path.{_≡_};
 ghost use mathlib.Core.List.{List};
 ghost use Prim.Native.Nat.{ℕ, _≤_};
 ghost use lib.ListN.{length};
-ghost use Rattle.history.specs.Table.{history, Alike, largestCount};
+ghost use Rattle.history.specs.Table.{history, Alike, largestCount, rowCount};
 ghost use Rattle.history.specs.Answer.{firstMet, passed};
 ghost use Rattle.methods.specs.Prepared.{prepared};
 ghost use Rattle.methods.specs.Lbt.{lbt};
@@ -25,6 +25,9 @@ const ZONES: u64 = 1;
 const LBT: u64 = 2;
 
 const FZF: u64 = 3;
+
+// So many rows are few: short arrays do for them, which are sooner cleared than the long ones.
+const FEW: usize = 64;
 
 // Whether there is no such question.
 fn unasked(question: u64) -> bool
@@ -53,7 +56,26 @@ fn refusal(table: &[u64], register: u64, question: u64, room: usize) -> Answer
     nine
 }
 
-// LBT, with the writes by falling finish.
+// LBT, with the writes by falling finish in a slice that has a place for each operation.
+fn walk_with(
+    start: &[u64],
+    finish: &[u64],
+    writer: &[u64],
+    last: &[u64],
+    prev: &[u64],
+    allowance: u64,
+    falling: &mut [u64],
+) -> Search
+    requires { ⌜ Sound (cols (now start) (now finish) (now writer) (now last) (now prev)) ⌝ }
+    requires { ⌜ length (now start) ≤ largestCount ⌝ }
+    requires { ⌜ length (now writer) ≤ length (now falling) ⌝ }
+    ensures { λ r. ⌜ Searched (cols (now (start .entry)) (now (finish .entry)) (now (writer .entry)) (now (last .entry)) (now (prev .entry))) allowance (λ H. walked (lbt H)) r ⌝ }
+{
+    let m = columns::falls(finish, writer, falling);
+    lbt::search(start, finish, writer, last, prev, &falling[..m], allowance)
+}
+
+// LBT.
 fn walk(
     start: &[u64],
     finish: &[u64],
@@ -66,9 +88,12 @@ fn walk(
     requires { ⌜ length (now start) ≤ largestCount ⌝ }
     ensures { λ r. ⌜ Searched (cols (now (start .entry)) (now (finish .entry)) (now (writer .entry)) (now (last .entry)) (now (prev .entry))) allowance (λ H. walked (lbt H)) r ⌝ }
 {
+    if writer.len() <= FEW {
+        let mut few = [0u64; FEW];
+        return walk_with(start, finish, writer, last, prev, allowance, &mut few);
+    }
     let mut falling = [0u64; Row::LARGEST_COUNT];
-    let m = columns::falls(finish, writer, &mut falling);
-    lbt::search(start, finish, writer, last, prev, &falling[..m], allowance)
+    walk_with(start, finish, writer, last, prev, allowance, &mut falling)
 }
 
 // The search by the method of the question.
@@ -157,9 +182,6 @@ fn work(
     answer(found, rows, allowance, list)
 }
 
-// So many rows are few: short arrays do for them, which are sooner cleared than the long ones.
-const FEW: usize = 64;
-
 // The mark of a screened register of few rows, from these by rising start.
 fn mark_few(table: &[u64], rows: &[u64], question: u64, allowance: u64, list: &mut [u64]) -> Answer
     requires { ⌜ ((register : ℕ) × Listed (now table) register (now rows)) ⌝ }
@@ -216,17 +238,37 @@ fn mark_many(table: &[u64], rows: &[u64], question: u64, allowance: u64, list: &
     )
 }
 
+// The mark of a register that passes tests 1 to 10, with a place for each row of the table.
+fn marked_with(
+    table: &[u64],
+    register: u64,
+    question: u64,
+    allowance: u64,
+    rows: &mut [u64],
+    list: &mut [u64],
+) -> Answer
+    requires { ⌜ Passes (length (now table)) (history (now table) register) question (now list) ⌝ }
+    requires { ⌜ rowCount (now table) ≤ length (now rows) ⌝ }
+    ensures { λ r. ⌜ outcome r (now (list .exit)) ≡ judged (length (history (now (table .entry)) register)) allowance (now (list .entry)) (method question (prepared (history (now (table .entry)) register))) ⌝ }
+{
+    let n = columns::rows_by_start(table, register, rows);
+    if n <= FEW {
+        return mark_few(table, &rows[..n], question, allowance, list);
+    }
+    mark_many(table, &rows[..n], question, allowance, list)
+}
+
 // The mark of a register that passes tests 1 to 10.
 fn marked(table: &[u64], register: u64, question: u64, allowance: u64, list: &mut [u64]) -> Answer
     requires { ⌜ Passes (length (now table)) (history (now table) register) question (now list) ⌝ }
     ensures { λ r. ⌜ outcome r (now (list .exit)) ≡ judged (length (history (now (table .entry)) register)) allowance (now (list .entry)) (method question (prepared (history (now (table .entry)) register))) ⌝ }
 {
-    let mut rows = [0u64; Row::LARGEST_COUNT];
-    let n = columns::rows_by_start(table, register, &mut rows);
-    if n <= FEW {
-        return mark_few(table, &rows[..n], question, allowance, list);
+    if table.len() / Row::COLUMNS <= FEW {
+        let mut few = [0u64; FEW];
+        return marked_with(table, register, question, allowance, &mut few, list);
     }
-    mark_many(table, &rows[..n], question, allowance, list)
+    let mut rows = [0u64; Row::LARGEST_COUNT];
+    marked_with(table, register, question, allowance, &mut rows, list)
 }
 
 // The marking call: fresh with an order at the front of the list, stale, spent, or a refusal; but for fresh the list is left as it was.

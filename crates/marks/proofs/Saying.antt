@@ -14,7 +14,7 @@ use Rattle.lists.specs.declared.Found.the-variants.{At, Nothing}
 use Rattle.lists.proofs.Counts.{keep-length}
 use Rattle.history.specs.declared.Op.{Op}
 use Rattle.history.specs.declared.Answer.{Answer}
-use Rattle.history.specs.Table.{history, largestCount, isWrite}
+use Rattle.history.specs.Table.{history, rowCount, largestCount, isWrite}
 use Rattle.history.specs.Answer.{number, spent, short-list, Test, test, ifSo, refusedOr, firstMet, passed}
 use Rattle.history.specs.Screen.{tests, Screened}
 use Rattle.history.proofs.Refusals.{NoFault, met-append}
@@ -28,6 +28,7 @@ use Rattle.meaning.specs.Marked.{Passes, trialsOf, Marked, is-refused, is-spent
 use Rattle.meaning.specs.Demand.{NoOrder}
 use Rattle.meaning.proofs.Methods.{always-enough}
 use Rattle.meaning.proofs.Outcomes.{marked?}
+use Rattle.marks.proofs.Places.{same-answer}
 use Rattle.marks.specs.Marks.{answerTo, Ample, Askable, Said}
 
 -- the list inside
@@ -142,10 +143,23 @@ module _ (t : List ℕ) (register question : ℕ) where
         go true false (order o) e = omega (arith, e)
         go false c d e = never-short e
 
-    -- THE CONTRACT, from the contract of the marking call
+    -- THE CONTRACT, from the answer
+    said-of : (a : Answer) → a ≡ answerTo t register question allowance →
+        (a ≡ answerTo t register question allowance) × ((Ample question allowance → Said t register question (a .code)) × (a .code ≢ number short-list))
+    said-of a i = (i, (λ f. rw i (answer-said f), λ z. never-ten (sym (ap (λ x. x .code) i) ∙ z)))
+
+    -- from the contract of the marking call, with 1,024 places
     pub answer-is : (a : Answer) (after : List ℕ) → _≡_ {A = Outcome} (record { answer = a; list = after }) (mark t register question allowance places) →
         (a ≡ answerTo t register question allowance) × ((Ample question allowance → Said t register question (a .code)) × (a .code ≢ number short-list))
     unfolding answerTo
-    answer-is a after e =
-        let i : a ≡ answerTo t register question allowance = ap (λ (o : Outcome). o .answer) e in
-        (i, (λ f. rw i (answer-said f), λ z. never-ten (sym (ap (λ x. x .code) i) ∙ z)))
+    answer-is a after e = said-of a (ap (λ (o : Outcome). o .answer) e)
+
+    -- and with fewer, where the table has no more rows
+    pub answer-few : (m : ℕ) → rowCount t ≤ m → m ≤ largestCount → (a : Answer) (after : List ℕ) →
+        _≡_ {A = Outcome} (record { answer = a; list = after }) (mark t register question allowance (replicate m 0)) →
+        (a ≡ answerTo t register question allowance) × ((Ample question allowance → Said t register question (a .code)) × (a .code ≢ number short-list))
+    unfolding answerTo mark
+    answer-few m k l a after e =
+        let f : length h ≤ length (replicate {A = ℕ} m 0) = omega (arith, rows-few t register, length-replicate {A = ℕ} m 0) in
+        let g : length h ≤ length places = omega (arith, rows-few t register, length-replicate {A = ℕ} largestCount 0) in
+        said-of a (ap (λ (o : Outcome). o .answer) e ∙ same-answer h (replicate m 0) places f g (length t) question allowance)

@@ -352,17 +352,30 @@ fn examine_many(table: &[u64], rows: &[u64]) -> Answer
     )
 }
 
+// Tests 4 to 9 of a register, with a place for each row of the table.
+fn examine_gathered(table: &[u64], register: u64, rows: &mut [u64]) -> Answer
+    requires { ⌜ rowCount (now table) ≤ largestCount ⌝ }
+    requires { ⌜ rowCount (now table) ≤ length (now rows) ⌝ }
+    ensures { λ r. ⌜ r ≡ firstMet (rowTests (history (now (table .entry)) register)) (passed (length (history (now (table .entry)) register))) ⌝ }
+{
+    let n = gather(table, register, rows);
+    if n <= FEW {
+        return examine_few(table, &rows[..n]);
+    }
+    examine_many(table, &rows[..n])
+}
+
 // Tests 4 to 9 of a register.
 fn examine_register(table: &[u64], register: u64) -> Answer
     requires { ⌜ rowCount (now table) ≤ largestCount ⌝ }
     ensures { λ r. ⌜ r ≡ firstMet (rowTests (history (now (table .entry)) register)) (passed (length (history (now (table .entry)) register))) ⌝ }
 {
-    let mut rows = [0u64; Row::LARGEST_COUNT];
-    let n = gather(table, register, &mut rows);
-    if n <= FEW {
-        return examine_few(table, &rows[..n]);
+    if table.len() / Row::COLUMNS <= FEW {
+        let mut few = [0u64; FEW];
+        return examine_gathered(table, register, &mut few);
     }
-    examine_many(table, &rows[..n])
+    let mut rows = [0u64; Row::LARGEST_COUNT];
+    examine_gathered(table, register, &mut rows)
 }
 
 // Tests 1 to 9. `unasked` is the condition of test 3: no such question, or a k of 0.
