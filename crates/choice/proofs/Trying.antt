@@ -56,8 +56,7 @@ module _ (C : Cols) (p : Sound C) (t b turn placed cells : List ℕ) where
                 small = g .chunk .small;
                 writes = g .chunk .writes;
                 apart = g .chunk .apart;
-                room = g .chunk .room;
-                turns = d ∙ g .chunk .turns;
+                turns = omega (arith, d, g .chunk .turns);
                 marks = e ∙ g .chunk .marks;
                 sized = f ∙ g .chunk .sized;
               };

@@ -52,13 +52,12 @@ unfoldable pub offers : List ℕ → List ℕ → Bool → List (List ℕ)
 offers t [] swap = offer t [] false swap ∷ []
 offers t (w ∷ b) swap = offer t (w ∷ b) false swap ∷ (offer t (w ∷ b) true swap ∷ [])
 
--- what the caller shows of a chunk: its writes, each once, no more than there is room for, and lent places for all
+-- what the caller shows of a chunk: its writes, each once, and lent places for all
 pub record Chunk (C : Cols) (t b turn placed cells : List ℕ) : Type 0 where
   pub small : size C ≤ largestCount
   pub writes : Writes (C .writer) (t ++ b)
   pub apart : Pairs Unlike (t ++ b)
-  pub room : length t + length b ≤ largestCount
-  pub turns : length turn ≡ largestCount
+  pub turns : length t + length b ≤ length turn
   pub marks : length placed ≡ largestCount
   pub sized : length cells ≡ largestCount
 

@@ -79,7 +79,7 @@ module _ (C : Cols) (p : Sound C) (n : size C ≤ 1024) (late : List ℕ) (g : Z
       go (inr i) = inner-write x i
 
   -- what the choice requires
-  pub chunk-choice : (list turn placed part : List ℕ) → Lent list turn placed part → Chunk C run I turn placed part
+  pub chunk-choice : (list turn placed part : List ℕ) → Lent (size C) list turn placed part → Chunk C run I turn placed part
   chunk-choice list turn placed part l =
       record {
         small = n;
@@ -87,14 +87,14 @@ module _ (C : Cols) (p : Sound C) (n : size C ≤ 1024) (late : List ℕ) (g : Z
         apart =
             pairs-append (k .apart) (pairs-keep (lies (C .finish) late bottom top) (side-apart (C .finish) late (C .writer) false))
             (λ x y m i. sides-unlike (C .finish) late (C .writer) x y (k .among x m) (inner-in i));
-        room =
+        turns =
             omega (
               arith,
               k .few,
               keep-length (lies (C .finish) late bottom top) (backs C late),
               sides-few C p late g,
+              l .turns,
             );
-        turns = l .turns;
         marks = l .marks;
         sized = l .cells;
       }

@@ -84,23 +84,17 @@ poised-none C p n late F B =
       behind = λ l. record { within = omega arith; lows = λ k b. absurd (omega arith) };
     }
 
-pub lent-none : Lent (replicate 1024 0) (replicate 1024 0) (replicate 1024 1) (replicate 1024 0)
-lent-none =
-    record {
-      inner = length-replicate {A = ℕ} 1024 0;
-      turns = length-replicate {A = ℕ} 1024 0;
-      marks = length-replicate {A = ℕ} 1024 1;
-      cells = length-replicate {A = ℕ} 1024 0;
-    }
+pub lent-none : (n : ℕ) (list turn : List ℕ) → n ≤ length list → n ≤ length turn → Lent n list turn (replicate 1024 1) (replicate 1024 0)
+lent-none n list turn x y = record { inner = x; turns = y; marks = length-replicate {A = ℕ} 1024 1; cells = length-replicate {A = ℕ} 1024 0 }
 
 -- no place is marked at the outset
-pub unmarked : (i : ℕ) → i < length (replicate {A = ℕ} 1024 0) → isFree (replicate 1024 0) i ≡ true
-unmarked i l = rw (getD-replicate {A = ℕ} 1024 i 0 0 (omega (arith, l, length-replicate {A = ℕ} 1024 0)))
+pub unmarked : (n i : ℕ) → i < length (replicate {A = ℕ} n 0) → isFree (replicate n 0) i ≡ true
+unmarked n i l = rw (getD-replicate {A = ℕ} n i 0 0 (omega (arith, l, length-replicate {A = ℕ} n 0)))
 
 -- after an item the places are as many
-pub lent-again : {list turn placed part : List ℕ} → Lent list turn placed part → (list' turn' placed' part' : List ℕ) → length list' ≡ length list → length turn' ≡ length turn →
-    length placed' ≡ length placed → length part' ≡ length part → Lent list' turn' placed' part'
-lent-again l list' turn' placed' part' a b c d = record { inner = a ∙ l .inner; turns = b ∙ l .turns; marks = c ∙ l .marks; cells = d ∙ l .cells }
+pub lent-again : {n : ℕ} {list turn placed part : List ℕ} → Lent n list turn placed part → (list' turn' placed' part' : List ℕ) → length list' ≡ length list → length turn' ≡ length turn →
+    length placed' ≡ length placed → length part' ≡ length part → Lent n list' turn' placed' part'
+lent-again l list' turn' placed' part' a b c d = record { inner = omega (arith, a, l .inner); turns = omega (arith, b, l .turns); marks = c ∙ l .marks; cells = d ∙ l .cells }
 
 module _ (C : Cols) (late : List ℕ) (g : Zoned C late) where
   abbrev F : List ℕ

@@ -43,10 +43,10 @@ pub record Cut (C : Cols) (late run : List ℕ) : Type 0 where
 abbrev pub runOf : List Op → List ℕ → ℕ → Run
 runOf H run top = record { first = op H (getD run 0 0); more = ops H (drop 1 run); top = top }
 
--- the places that are lent for an item
-pub record Lent (list turn placed part : List ℕ) : Type 0 where
-  pub inner : length list ≡ largestCount
-  pub turns : length turn ≡ largestCount
+-- the places that are lent for an item of n operations
+pub record Lent (n : ℕ) (list turn placed part : List ℕ) : Type 0 where
+  pub inner : n ≤ length list
+  pub turns : n ≤ length turn
   pub marks : length placed ≡ largestCount
   pub cells : length part ≡ largestCount
 

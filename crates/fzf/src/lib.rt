@@ -2,6 +2,7 @@
 use history::Row;
 use placing::Search;
 ghost use mathlib.Core.Path.{_≡_};
+ghost use mathlib.Core.Bool.{true};
 ghost use mathlib.Core.List.{_++_};
 ghost use Prim.Native.Nat.{ℕ, _+_, _≤_, _<_};
 ghost use lib.ListN.{length, getD, take};
@@ -10,8 +11,9 @@ ghost use Rattle.methods.specs.Zones.{low};
 ghost use Rattle.methods.specs.Fzf.{fzf};
 ghost use Rattle.methods.specs.Mark.{untried};
 ghost use Rattle.positions.specs.Columns.{cols, Sound};
+ghost use Rattle.placing.specs.States.{isFree};
 ghost use Rattle.placing.specs.Searched.{Searched};
-ghost use Rattle.zones.specs.Zones.{zoneBy, Zoned, Inside, byLow};
+ghost use Rattle.zones.specs.Zones.{zoneBy, Zoned, Inside};
 ghost use Rattle.freeing.specs.Freed.{Shut};
 ghost use Rattle.chunking.specs.Inner.{Behind, Hangs};
 ghost use Rattle.fzf.specs.Items.{Known, forths, backs, Cut, Lent, Poised, Chunked, Nexts};
@@ -65,7 +67,7 @@ fn chunk(
     requires { ⌜ Cut (cols (now start) (now finish) (now writer) (now last) (now prev)) (now late) (now run) ⌝ }
     requires { ⌜ now backwards ≡ backs (cols (now start) (now finish) (now writer) (now last) (now prev)) (now late) ⌝ }
     requires { ⌜ Behind (now finish) (now late) (now backwards) i (low (zoneBy (now finish) (now late) (getD (now run) 0 0))) ⌝ }
-    requires { ⌜ Lent (now list) (now turn) (now placed) (now part) ⌝ }
+    requires { ⌜ Lent (length (now start)) (now list) (now turn) (now placed) (now part) ⌝ }
     requires { ⌜ Shut (length (now writer)) (now placed) ⌝ }
     ensures order { λ r. ⌜ Chunked (cols (now (start .entry)) (now (finish .entry)) (now (writer .entry)) (now (last .entry)) (now (prev .entry))) (now (run .entry)) top (now (part .exit)) (r .at) (r .failed) ⌝ }
     ensures marks { λ _. ⌜ Shut (length (now (writer .entry))) (now (placed .exit)) ⌝ }
@@ -169,7 +171,7 @@ fn item(
     requires { ⌜ now backwards ≡ backs (cols (now start) (now finish) (now writer) (now last) (now prev)) (now late) ⌝ }
     requires { ⌜ Waiting (now finish) (now late) (now forwards) (now backwards) a j ⌝ }
     requires { ⌜ Poised (cols (now start) (now finish) (now writer) (now last) (now prev)) (now late) (now forwards) (now backwards) a i (now placed) ⌝ }
-    requires { ⌜ Lent (now list) (now turn) (now placed) (now part) ⌝ }
+    requires { ⌜ Lent (length (now start)) (now list) (now turn) (now placed) (now part) ⌝ }
     ensures end { λ r. ⌜ Nexts (cols (now (start .entry)) (now (finish .entry)) (now (writer .entry)) (now (last .entry)) (now (prev .entry))) (now (forwards .entry)) (now (backwards .entry)) a j (now (part .exit)) r ⌝ }
     ensures poised { λ r. ⌜ Poised (cols (now (start .entry)) (now (finish .entry)) (now (writer .entry)) (now (last .entry)) (now (prev .entry))) (now (late .entry)) (now (forwards .entry)) (now (backwards .entry)) (r .forward) (r .inner) (now (placed .exit)) ⌝ }
 {
@@ -224,7 +226,7 @@ fn ended(order: [u64; Row::LARGEST_COUNT], m: usize, kind: u64) -> Search
     }
 }
 
-// Joins the items by low end; the backward writes inside a run are marked.
+// Joins the items by low end; the backward writes inside a run are marked, and `list` and `turn` have a place for each operation.
 fn join(
     start: &[u64],
     finish: &[u64],
@@ -235,6 +237,8 @@ fn join(
     forwards: &[u64],
     backwards: &[u64],
     marks: &[u8],
+    list: &mut [u64],
+    turn: &mut [u64],
 ) -> Search
     requires { ⌜ Sound (cols (now start) (now finish) (now writer) (now last) (now prev)) ⌝ }
     requires { ⌜ length (now start) ≤ largestCount ⌝ }
@@ -242,14 +246,14 @@ fn join(
     requires { ⌜ Zoned (cols (now start) (now finish) (now writer) (now last) (now prev)) (now late) ⌝ }
     requires { ⌜ now forwards ≡ forths (cols (now start) (now finish) (now writer) (now last) (now prev)) (now late) ⌝ }
     requires { ⌜ now backwards ≡ backs (cols (now start) (now finish) (now writer) (now last) (now prev)) (now late) ⌝ }
-    requires { ⌜ length (now marks) ≡ largestCount ⌝ }
+    requires { ⌜ length (now start) ≤ length (now marks) ⌝ }
     requires { ⌜ Hangs (now finish) (now late) (now forwards) (now backwards) (now marks) ⌝ }
+    requires { ⌜ length (now start) ≤ length (now list) ⌝ }
+    requires { ⌜ length (now start) ≤ length (now turn) ⌝ }
     ensures { λ r. ⌜ ((allowance : ℕ) → Searched (cols (now (start .entry)) (now (finish .entry)) (now (writer .entry)) (now (last .entry)) (now (prev .entry))) allowance (λ H. untried (fzf H)) r) ⌝ }
 {
     let mut order = [0u64; Row::LARGEST_COUNT];
     let mut part = [0u64; Row::LARGEST_COUNT];
-    let mut list = [0u64; Row::LARGEST_COUNT];
-    let mut turn = [0u64; Row::LARGEST_COUNT];
     let mut placed = [1u8; Row::LARGEST_COUNT];
     let mut m: usize = 0;
     let mut a: usize = 0;
@@ -272,8 +276,8 @@ fn join(
             a,
             j,
             i,
-            &mut list,
-            &mut turn,
+            list,
+            turn,
             &mut placed,
             &mut part,
         );
@@ -288,38 +292,80 @@ fn join(
     }
 }
 
-// FZF over the writes by low end.
-fn split(
+// FZF over the forward and the backward writes by low end, with marks that are clean.
+fn sides(
     start: &[u64],
     finish: &[u64],
     writer: &[u64],
     last: &[u64],
     prev: &[u64],
     late: &[u64],
-    list: &[u64],
+    forwards: &[u64],
+    backwards: &[u64],
+    marks: &mut [u8],
+    list: &mut [u64],
+    turn: &mut [u64],
 ) -> Search
     requires { ⌜ Sound (cols (now start) (now finish) (now writer) (now last) (now prev)) ⌝ }
     requires { ⌜ length (now start) ≤ largestCount ⌝ }
     requires { ⌜ Known (cols (now start) (now finish) (now writer) (now last) (now prev)) ⌝ }
     requires { ⌜ Zoned (cols (now start) (now finish) (now writer) (now last) (now prev)) (now late) ⌝ }
-    requires { ⌜ now list ≡ byLow (now finish) (now late) (now writer) ⌝ }
+    requires { ⌜ now forwards ≡ forths (cols (now start) (now finish) (now writer) (now last) (now prev)) (now late) ⌝ }
+    requires { ⌜ now backwards ≡ backs (cols (now start) (now finish) (now writer) (now last) (now prev)) (now late) ⌝ }
+    requires { ⌜ length (now start) ≤ length (now marks) ⌝ }
+    requires { ⌜ ((i : ℕ) → i < length (now marks) → isFree (now marks) i ≡ true) ⌝ }
+    requires { ⌜ length (now start) ≤ length (now list) ⌝ }
+    requires { ⌜ length (now start) ≤ length (now turn) ⌝ }
     ensures { λ r. ⌜ ((allowance : ℕ) → Searched (cols (now (start .entry)) (now (finish .entry)) (now (writer .entry)) (now (last .entry)) (now (prev .entry))) allowance (λ H. untried (fzf H)) r) ⌝ }
 {
-    let mut forwards = [0u64; Row::LARGEST_COUNT];
-    let f = chunking::part(finish, late, list, true, &mut forwards);
-    let mut backwards = [0u64; Row::LARGEST_COUNT];
-    let b = chunking::part(finish, late, list, false, &mut backwards);
-    let mut room = [0u64; Row::LARGEST_COUNT];
-    let mut marks = [0u8; Row::LARGEST_COUNT];
-    chunking::mark_inner(
-        finish,
-        late,
-        &forwards[..f],
-        &backwards[..b],
-        &mut room,
-        &mut marks,
-    );
+    chunking::mark_inner(finish, late, forwards, backwards, list, marks);
     join(
+        start,
+        finish,
+        writer,
+        last,
+        prev,
+        late,
+        forwards,
+        backwards,
+        marks,
+        list,
+        turn,
+    )
+}
+
+// FZF, where `late` has a place for each operation, the other slices at least as many, and the marks are clean.
+fn search_with(
+    start: &[u64],
+    finish: &[u64],
+    writer: &[u64],
+    last: &[u64],
+    prev: &[u64],
+    late: &mut [u64],
+    list: &mut [u64],
+    forwards: &mut [u64],
+    backwards: &mut [u64],
+    inner: &mut [u64],
+    marks: &mut [u8],
+) -> Search
+    requires { ⌜ Sound (cols (now start) (now finish) (now writer) (now last) (now prev)) ⌝ }
+    requires { ⌜ length (now start) ≤ largestCount ⌝ }
+    requires { ⌜ Known (cols (now start) (now finish) (now writer) (now last) (now prev)) ⌝ }
+    requires { ⌜ length (now late) ≡ length (now start) ⌝ }
+    requires { ⌜ length (now start) ≤ length (now list) ⌝ }
+    requires { ⌜ length (now start) ≤ length (now forwards) ⌝ }
+    requires { ⌜ length (now start) ≤ length (now backwards) ⌝ }
+    requires { ⌜ length (now start) ≤ length (now inner) ⌝ }
+    requires { ⌜ length (now start) ≤ length (now marks) ⌝ }
+    requires { ⌜ ((i : ℕ) → i < length (now marks) → isFree (now marks) i ≡ true) ⌝ }
+    ensures { λ r. ⌜ ((allowance : ℕ) → Searched (cols (now (start .entry)) (now (finish .entry)) (now (writer .entry)) (now (last .entry)) (now (prev .entry))) allowance (λ H. untried (fzf H)) r) ⌝ }
+{
+    zones::lates(start, writer, last, late);
+    let m = zones::by_low(finish, late, writer, list);
+    let f = chunking::part(finish, late, &list[..m], true, forwards);
+    let b = chunking::part(finish, late, &list[..m], false, backwards);
+    // The list is read no more, and has the room for a chunk's sequence.
+    sides(
         start,
         finish,
         writer,
@@ -328,7 +374,67 @@ fn split(
         late,
         &forwards[..f],
         &backwards[..b],
-        &marks,
+        marks,
+        inner,
+        list,
+    )
+}
+
+// FZF for few operations.
+fn search_few(start: &[u64], finish: &[u64], writer: &[u64], last: &[u64], prev: &[u64]) -> Search
+    requires { ⌜ Sound (cols (now start) (now finish) (now writer) (now last) (now prev)) ⌝ }
+    requires { ⌜ length (now start) ≤ 64 ⌝ }
+    requires { ⌜ Known (cols (now start) (now finish) (now writer) (now last) (now prev)) ⌝ }
+    ensures { λ r. ⌜ ((allowance : ℕ) → Searched (cols (now (start .entry)) (now (finish .entry)) (now (writer .entry)) (now (last .entry)) (now (prev .entry))) allowance (λ H. untried (fzf H)) r) ⌝ }
+{
+    let n = start.len();
+    let mut late = [0u64; zones::FEW];
+    let mut list = [0u64; zones::FEW];
+    let mut forwards = [0u64; zones::FEW];
+    let mut backwards = [0u64; zones::FEW];
+    let mut inner = [0u64; zones::FEW];
+    let mut marks = [0u8; zones::FEW];
+    search_with(
+        start,
+        finish,
+        writer,
+        last,
+        prev,
+        &mut late[..n],
+        &mut list,
+        &mut forwards,
+        &mut backwards,
+        &mut inner,
+        &mut marks,
+    )
+}
+
+// The same for as many operations as a table has.
+fn search_many(start: &[u64], finish: &[u64], writer: &[u64], last: &[u64], prev: &[u64]) -> Search
+    requires { ⌜ Sound (cols (now start) (now finish) (now writer) (now last) (now prev)) ⌝ }
+    requires { ⌜ length (now start) ≤ largestCount ⌝ }
+    requires { ⌜ Known (cols (now start) (now finish) (now writer) (now last) (now prev)) ⌝ }
+    ensures { λ r. ⌜ ((allowance : ℕ) → Searched (cols (now (start .entry)) (now (finish .entry)) (now (writer .entry)) (now (last .entry)) (now (prev .entry))) allowance (λ H. untried (fzf H)) r) ⌝ }
+{
+    let n = start.len();
+    let mut late = [0u64; Row::LARGEST_COUNT];
+    let mut list = [0u64; Row::LARGEST_COUNT];
+    let mut forwards = [0u64; Row::LARGEST_COUNT];
+    let mut backwards = [0u64; Row::LARGEST_COUNT];
+    let mut inner = [0u64; Row::LARGEST_COUNT];
+    let mut marks = [0u8; Row::LARGEST_COUNT];
+    search_with(
+        start,
+        finish,
+        writer,
+        last,
+        prev,
+        &mut late[..n],
+        &mut list,
+        &mut forwards,
+        &mut backwards,
+        &mut inner,
+        &mut marks,
     )
 }
 
@@ -339,10 +445,8 @@ pub fn search(start: &[u64], finish: &[u64], writer: &[u64], last: &[u64], prev:
     requires { ⌜ Known (cols (now start) (now finish) (now writer) (now last) (now prev)) ⌝ }
     ensures { λ r. ⌜ ((allowance : ℕ) → Searched (cols (now (start .entry)) (now (finish .entry)) (now (writer .entry)) (now (last .entry)) (now (prev .entry))) allowance (λ H. untried (fzf H)) r) ⌝ }
 {
-    let n = start.len();
-    let mut late = [0u64; Row::LARGEST_COUNT];
-    zones::lates(start, writer, last, &mut late[..n]);
-    let mut list = [0u64; Row::LARGEST_COUNT];
-    let m = zones::by_low(finish, &late[..n], writer, &mut list);
-    split(start, finish, writer, last, prev, &late[..n], &list[..m])
+    if start.len() <= zones::FEW {
+        return search_few(start, finish, writer, last, prev);
+    }
+    search_many(start, finish, writer, last, prev)
 }

@@ -143,6 +143,52 @@ fn one(finish: &[u64], late: &[u64], list: &[u64]) -> bool
     true
 }
 
+// The writes by low end, at the front of the list, where `low` has a place for the low end of each; their number.
+fn by_low_with(
+    finish: &[u64],
+    late: &[u64],
+    writer: &[u64],
+    low: &mut [u64],
+    list: &mut [u64],
+) -> usize
+    requires { ⌜ length (now finish) ≡ length (now writer) ⌝ }
+    requires { ⌜ length (now late) ≡ length (now finish) ⌝ }
+    requires { ⌜ length (now writer) ≤ length (now low) ⌝ }
+    requires { ⌜ length (now writer) ≤ length (now list) ⌝ }
+    ensures { λ r. ⌜ (r ≤ length (now (writer .entry))) × (take r (now (list .exit)) ≡ byLow (now (finish .entry)) (now (late .entry)) (now (writer .entry))) ⌝ }
+{
+    let m = low_ends(finish, late, writer, low, list);
+    sorting::sort_by(low, &mut list[..m]);
+    m
+}
+
+// So many operations are few: short arrays do for them, which are sooner cleared than the long ones.
+pub const FEW: usize = 64;
+
+// The writes of few operations by low end.
+fn by_low_few(finish: &[u64], late: &[u64], writer: &[u64], list: &mut [u64]) -> usize
+    requires { ⌜ length (now finish) ≡ length (now writer) ⌝ }
+    requires { ⌜ length (now late) ≡ length (now finish) ⌝ }
+    requires { ⌜ length (now writer) ≤ 64 ⌝ }
+    requires { ⌜ length (now writer) ≤ length (now list) ⌝ }
+    ensures { λ r. ⌜ (r ≤ length (now (writer .entry))) × (take r (now (list .exit)) ≡ byLow (now (finish .entry)) (now (late .entry)) (now (writer .entry))) ⌝ }
+{
+    let mut low = [0u64; FEW];
+    by_low_with(finish, late, writer, &mut low, list)
+}
+
+// The same for as many operations as a table has.
+fn by_low_many(finish: &[u64], late: &[u64], writer: &[u64], list: &mut [u64]) -> usize
+    requires { ⌜ length (now finish) ≡ length (now writer) ⌝ }
+    requires { ⌜ length (now late) ≡ length (now finish) ⌝ }
+    requires { ⌜ length (now writer) ≤ largestCount ⌝ }
+    requires { ⌜ length (now writer) ≤ length (now list) ⌝ }
+    ensures { λ r. ⌜ (r ≤ length (now (writer .entry))) × (take r (now (list .exit)) ≡ byLow (now (finish .entry)) (now (late .entry)) (now (writer .entry))) ⌝ }
+{
+    let mut low = [0u64; Row::LARGEST_COUNT];
+    by_low_with(finish, late, writer, &mut low, list)
+}
+
 // The writes by low end, at the front of the list; their number.
 pub fn by_low(finish: &[u64], late: &[u64], writer: &[u64], list: &mut [u64]) -> usize
     requires { ⌜ length (now finish) ≡ length (now writer) ⌝ }
@@ -151,10 +197,10 @@ pub fn by_low(finish: &[u64], late: &[u64], writer: &[u64], list: &mut [u64]) ->
     requires { ⌜ length (now writer) ≤ length (now list) ⌝ }
     ensures { λ r. ⌜ (r ≤ length (now (writer .entry))) × (take r (now (list .exit)) ≡ byLow (now (finish .entry)) (now (late .entry)) (now (writer .entry))) ⌝ }
 {
-    let mut low = [0u64; Row::LARGEST_COUNT];
-    let m = low_ends(finish, late, writer, &mut low, list);
-    sorting::sort_by(&low, &mut list[..m]);
-    m
+    if writer.len() <= FEW {
+        return by_low_few(finish, late, writer, list);
+    }
+    by_low_many(finish, late, writer, list)
 }
 
 // The clusters of the listed writes, in their sequence, in front of what is laid; where the order begins then.
@@ -229,16 +275,59 @@ fn decide(
     }
 }
 
-// The zone method: whether the history is 1-atomic, with an order.
-pub fn search(start: &[u64], finish: &[u64], writer: &[u64], last: &[u64], prev: &[u64]) -> Search
+// The zone method, where `late` has a place for each operation, and the list at least as many.
+fn search_with(
+    start: &[u64],
+    finish: &[u64],
+    writer: &[u64],
+    last: &[u64],
+    prev: &[u64],
+    late: &mut [u64],
+    list: &mut [u64],
+) -> Search
+    requires { ⌜ Sound (cols (now start) (now finish) (now writer) (now last) (now prev)) ⌝ }
+    requires { ⌜ length (now start) ≤ largestCount ⌝ }
+    requires { ⌜ length (now late) ≡ length (now start) ⌝ }
+    requires { ⌜ length (now start) ≤ length (now list) ⌝ }
+    ensures { λ r. ⌜ ((allowance : ℕ) → Searched (cols (now (start .entry)) (now (finish .entry)) (now (writer .entry)) (now (last .entry)) (now (prev .entry))) allowance (λ H. untried (zones H)) r) ⌝ }
+{
+    lates(start, writer, last, late);
+    let m = by_low(finish, late, writer, list);
+    decide(start, finish, writer, last, prev, late, &list[..m])
+}
+
+// The zone method for few operations.
+fn search_few(start: &[u64], finish: &[u64], writer: &[u64], last: &[u64], prev: &[u64]) -> Search
+    requires { ⌜ Sound (cols (now start) (now finish) (now writer) (now last) (now prev)) ⌝ }
+    requires { ⌜ length (now start) ≤ 64 ⌝ }
+    ensures { λ r. ⌜ ((allowance : ℕ) → Searched (cols (now (start .entry)) (now (finish .entry)) (now (writer .entry)) (now (last .entry)) (now (prev .entry))) allowance (λ H. untried (zones H)) r) ⌝ }
+{
+    let n = start.len();
+    let mut late = [0u64; FEW];
+    let mut list = [0u64; FEW];
+    search_with(start, finish, writer, last, prev, &mut late[..n], &mut list)
+}
+
+// The same for as many operations as a table has.
+fn search_many(start: &[u64], finish: &[u64], writer: &[u64], last: &[u64], prev: &[u64]) -> Search
     requires { ⌜ Sound (cols (now start) (now finish) (now writer) (now last) (now prev)) ⌝ }
     requires { ⌜ length (now start) ≤ largestCount ⌝ }
     ensures { λ r. ⌜ ((allowance : ℕ) → Searched (cols (now (start .entry)) (now (finish .entry)) (now (writer .entry)) (now (last .entry)) (now (prev .entry))) allowance (λ H. untried (zones H)) r) ⌝ }
 {
     let n = start.len();
     let mut late = [0u64; Row::LARGEST_COUNT];
-    lates(start, writer, last, &mut late[..n]);
     let mut list = [0u64; Row::LARGEST_COUNT];
-    let m = by_low(finish, &late[..n], writer, &mut list);
-    decide(start, finish, writer, last, prev, &late[..n], &list[..m])
+    search_with(start, finish, writer, last, prev, &mut late[..n], &mut list)
+}
+
+// The zone method: whether the history is 1-atomic, with an order.
+pub fn search(start: &[u64], finish: &[u64], writer: &[u64], last: &[u64], prev: &[u64]) -> Search
+    requires { ⌜ Sound (cols (now start) (now finish) (now writer) (now last) (now prev)) ⌝ }
+    requires { ⌜ length (now start) ≤ largestCount ⌝ }
+    ensures { λ r. ⌜ ((allowance : ℕ) → Searched (cols (now (start .entry)) (now (finish .entry)) (now (writer .entry)) (now (last .entry)) (now (prev .entry))) allowance (λ H. untried (zones H)) r) ⌝ }
+{
+    if start.len() <= FEW {
+        return search_few(start, finish, writer, last, prev);
+    }
+    search_many(start, finish, writer, last, prev)
 }

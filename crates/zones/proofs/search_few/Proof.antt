@@ -1,0 +1,32 @@
+-- The column of largest starts is lent as long as the columns are.
+use mathlib.Core.Path.{sym}
+use native.Mathlib.Omega.{arith}
+use lib.Seq.{length-take-le}
+use borrow.Author.Needs.{needs}
+use Rattle.zones.proofs.search_few.Statement.{statement}
+use Rattle.zones.proofs.search_few.Tie as tie
+
+array-borrow-prefix-late : tie.Need-array-borrow-prefix-late
+array-borrow-prefix-late c = search needs
+
+slice-aggregate-search-with : tie.Need-slice-aggregate-search-with
+slice-aggregate-search-with c = sym (length-take-le _ _ (omega arith))
+
+slice-aggregate-search-with-2 : tie.Need-slice-aggregate-search-with-2
+slice-aggregate-search-with-2 c = search needs
+
+search-with-requires : tie.Need-search-with-requires
+search-with-requires c κs = let q = c .before .before .before .before .before .before .before .pre in (q .0, (omega arith, (length-take-le _ _ (omega arith), q .1)))
+
+returns : tie.Need-returns
+returns c = search needs
+
+pub search-few-spec : {M : Type 1} → statement M
+search-few-spec =
+    tie.close
+    (tie.spec
+    array-borrow-prefix-late
+    slice-aggregate-search-with
+    slice-aggregate-search-with-2
+    search-with-requires
+    returns)
