@@ -266,7 +266,6 @@ module _ (C : Cols) (K L cells : List ℕ) where
   try-one T r (an-order e g) =
       an-order e
       (record {
-        sized = g .sized;
         high = g .high;
         placed = g .placed;
         lays = g .lays;
@@ -282,7 +281,6 @@ module _ (C : Cols) (K L cells : List ℕ) where
     try-hit r (an-order e g) q =
         an-order e
         (record {
-          sized = g .sized;
           high = g .high;
           placed = g .placed;
           lays = g .lays;
@@ -297,7 +295,6 @@ module _ (C : Cols) (K L cells : List ℕ) where
     try-miss old a r (no-order e n) q (an-order d g) =
         an-order d
         (record {
-          sized = g .sized;
           high = g .high;
           placed = g .placed;
           lays = g .lays;
@@ -336,7 +333,6 @@ module _ (C : Cols) (K L cells : List ℕ) where
   chosen-all t b h r (an-order e g) =
       an-order e
       (record {
-        sized = g .sized;
         high = g .high;
         placed = g .placed;
         lays = g .lays;

@@ -67,6 +67,8 @@ follows-is T i asked = go (eqb asked 0) refl (below i (length T))
 pub record Placing (C : Cols) (T : List ℕ) (s : State) (i : ℕ) (t : State) : Type 0 where
   pub within : i ≤ length T
   pub holds : Holds C t
+  pub marks : length (t .placed) ≡ length (s .placed)
+  pub cells : length (t .order) ≡ length (s .order)
   pub whose : (j : ℕ) → i ≤ j → j < length T → Whose (C .writer) t (getD T j 0)
   pub placed : List ℕ
   pub lays : placed ++ laid s ≡ laid t
@@ -76,14 +78,13 @@ pub record Placing (C : Cols) (T : List ℕ) (s : State) (i : ℕ) (t : State) :
 module _ (C : Cols) (p : Sound C) (T : List ℕ) (s : State) where
   pub place-none : Holds C s → Turns (C .writer) T s → Placing C T s 0 s
   place-none h k =
-      record { within = omega arith; holds = h; whose = λ j a b. k .whose j b; placed = []; lays = refl; whole = λ H f. sym (behind-nil _); shrinks = λ j l e. e }
+      record { within = omega arith; holds = h; marks = refl; cells = refl; whose = λ j a b. k .whose j b; placed = []; lays = refl; whole = λ H f. sym (behind-nil _); shrinks = λ j l e. e }
 
   pub place-end : (i : ℕ) (t : State) → Placing C T s i t → length T ≤ i → (r : Front) → r .failed ≡ false → r .at ≡ t .at → Gives C (viableBy T (left s)) (laid s) (t .order) r
   unfolding viable putBehind
   place-end i t g l r e q =
       an-order e
       (record {
-        sized = g .holds .ready .cells;
         high = omega (arith, g .holds .ready .high);
         placed = g .placed;
         lays = rw q (g .lays);
@@ -137,6 +138,8 @@ module _ (C : Cols) (p : Sound C) (T : List ℕ) (s : State) where
           shrinks = λ j l y. g .shrinks j l (x .shrinks j l y);
           within = omega arith;
           holds = x .holds;
+          marks = x .marks ∙ g .marks;
+          cells = x .cells ∙ g .cells;
           whose = λ j a b. x .keeps (getD T j 0) (k .once i j (omega arith) b) (g .whose j (omega arith) b);
           placed = x .order ++ g .placed;
           lays = append-assoc (x .order) (g .placed) (laid s) ∙ rw (g .lays) (x .lays);

@@ -1,7 +1,7 @@
 -- A chunk that is set free for each order that is tried, and shut at the end.
 -- Assumes nothing.
 use Prim.Native.Nat.{ℕ, _≤_, _<_}
-use mathlib.Core.Path.{_≡_, _∙_}
+use mathlib.Core.Path.{_≡_}
 use mathlib.Core.Bool.{Bool}
 use mathlib.Core.List.{List, [], _∷_, _++_, Memᴰ·append-left, Memᴰ·append-right}
 use native.Mathlib.Omega.{arith}
@@ -57,8 +57,8 @@ module _ (C : Cols) (p : Sound C) (t b turn placed cells : List ℕ) where
                 writes = g .chunk .writes;
                 apart = g .chunk .apart;
                 turns = omega (arith, d, g .chunk .turns);
-                marks = e ∙ g .chunk .marks;
-                sized = f ∙ g .chunk .sized;
+                marks = omega (arith, e, g .chunk .marks);
+                sized = omega (arith, f, g .chunk .sized);
               };
           within = w;
           low = g .low;
@@ -68,10 +68,10 @@ module _ (C : Cols) (p : Sound C) (t b turn placed cells : List ℕ) where
     -- set free
     module _ (free : List ℕ) (q : Painted (C .writer) (t ++ b) 0 placed free) (e : length free ≡ length placed) where
       abbrev s : State
-      s = stateOf free cells 1024 top
+      s = stateOf free cells (length cells) top
 
       freed : Freed (C .writer) (t ++ b) s
-      freed = within-freed (C .writer) (t ++ b) placed free cells top (g .within) q (e ∙ g .chunk .marks) (g .chunk .sized) (g .low) (g .topped)
+      freed = within-freed (C .writer) (t ++ b) placed free cells top (g .within) q (omega (arith, e, g .chunk .marks, p .shape .long)) (omega (arith, g .chunk .sized, p .shape .long)) (g .low) (g .topped)
 
       pub offered-holds : Holds C s
       offered-holds = freed-holds C p (g .chunk .small) freed

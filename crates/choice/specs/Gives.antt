@@ -5,7 +5,6 @@ use mathlib.Core.Bool.{true, false}
 use mathlib.Core.List.{List, _++_}
 use Prim.Native.Nat.{ℕ, _≤_}
 use lib.ListN.{length, drop}
-use Rattle.history.specs.Table.{largestCount}
 use Rattle.history.specs.declared.Op.{Op}
 use Rattle.methods.specs.Zones.{Decision, none, order}
 use Rattle.positions.specs.Columns.{Cols, ops, Says}
@@ -13,8 +12,7 @@ use Rattle.placing.specs.declared.Front.{Front}
 
 -- d takes the order that stands from `at` on, in front of what was laid
 pub record Laid (C : Cols) (d : List Op → Decision) (laid cells : List ℕ) (at : ℕ) : Type 0 where
-  pub sized : length cells ≡ largestCount
-  pub high : at ≤ largestCount
+  pub high : at ≤ length cells
   pub placed : List ℕ
   pub lays : placed ++ laid ≡ drop at cells
   pub whole : Says C (λ H. d H ≡ order (ops H placed))

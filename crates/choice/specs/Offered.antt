@@ -3,7 +3,6 @@
 -- Assumes nothing.
 use Prim.Native.Nat.{ℕ, suc, zero, _+_, _-_, _≤_}
 use mathlib.Core.Bool.{Bool, true, false, not, cond}
-use mathlib.Core.Path.{_≡_}
 use mathlib.Core.List.{List, [], _∷_, _++_, map}
 use lib.ListN.{length, getD}
 use lib.Dec.{eqb, ltb}
@@ -58,8 +57,8 @@ pub record Chunk (C : Cols) (t b turn placed cells : List ℕ) : Type 0 where
   pub writes : Writes (C .writer) (t ++ b)
   pub apart : Pairs Unlike (t ++ b)
   pub turns : length t + length b ≤ length turn
-  pub marks : length placed ≡ largestCount
-  pub sized : length cells ≡ largestCount
+  pub marks : size C ≤ length placed
+  pub sized : size C ≤ length cells
 
 -- and that nothing else is to be placed, and nothing of it from top on
 pub record Offered (C : Cols) (t b turn placed cells : List ℕ) (top : ℕ) : Type 0 where

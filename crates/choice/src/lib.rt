@@ -1,5 +1,4 @@
 // The orders that figure 4 lists for a chunk, tried one by one: the first that is viable.
-use history::Row;
 use placing::Front;
 ghost use mathlib.Core.Path.{_≡_};
 ghost use mathlib.Core.List.{[], _∷_, _++_};
@@ -52,13 +51,13 @@ fn viable(
     top: usize,
 ) -> Front
     requires { ⌜ Sound (cols (now start) (now finish) (now writer) (now last) (now prev)) ⌝ }
-    requires { ⌜ Holds (cols (now start) (now finish) (now writer) (now last) (now prev)) (stateOf (now placed) (now order) largestCount top) ⌝ }
-    requires { ⌜ Turns (now writer) (now turn) (stateOf (now placed) (now order) largestCount top) ⌝ }
-    ensures end { λ r. ⌜ Gives (cols (now (start .entry)) (now (finish .entry)) (now (writer .entry)) (now (last .entry)) (now (prev .entry))) (viableBy (now (turn .entry)) (left (stateOf (now (placed .entry)) (now (order .entry)) largestCount top))) (laid (stateOf (now (placed .entry)) (now (order .entry)) largestCount top)) (now (order .exit)) r ⌝ }
+    requires { ⌜ Holds (cols (now start) (now finish) (now writer) (now last) (now prev)) (stateOf (now placed) (now order) (length (now order)) top) ⌝ }
+    requires { ⌜ Turns (now writer) (now turn) (stateOf (now placed) (now order) (length (now order)) top) ⌝ }
+    ensures end { λ r. ⌜ Gives (cols (now (start .entry)) (now (finish .entry)) (now (writer .entry)) (now (last .entry)) (now (prev .entry))) (viableBy (now (turn .entry)) (left (stateOf (now (placed .entry)) (now (order .entry)) (length (now (order .entry))) top))) (laid (stateOf (now (placed .entry)) (now (order .entry)) (length (now (order .entry))) top)) (now (order .exit)) r ⌝ }
     ensures marks { λ _. ⌜ Shrinks (length (now (start .entry))) (now (placed .entry)) (now (placed .exit)) ⌝ }
 {
     let n = turn.len();
-    let mut a = Row::LARGEST_COUNT;
+    let mut a = order.len();
     let mut k = top;
     let mut i: usize = 0;
     while i < n {

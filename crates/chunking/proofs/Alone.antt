@@ -18,39 +18,38 @@ use Rattle.freeing.specs.Marks.{Dyed}
 use Rattle.freeing.specs.Freed.{Shut}
 
 module _ (writer : List ℕ) (w : ℕ) (old placed cells : List ℕ) (n : length writer ≤ 1024) (l : w < length writer) (e : getD writer w 0 ≡ w)
-    (c : length cells ≡ 1024) (m : length placed ≡ 1024) (h : Shut (length writer) old) (d : Dyed writer w 0 old placed) where
+    (c : length writer ≤ length cells) (m : length writer ≤ length placed) (h : Shut (length writer) old) (d : Dyed writer w 0 old placed) where
   own-free : (j : ℕ) → j < length writer → mine writer w j ≡ true → isFree placed j ≡ true
   own-free j k q = let z : getD placed j 0 ≡ 0 = d j k ∙ rw q in ap (λ (x : ℕ). eqb x 0) z
 
   other-shut : (j : ℕ) → j < length writer → mine writer w j ≡ false → isFree placed j ≡ false
   other-shut j k q = let z : getD placed j 0 ≡ getD old j 0 = d j k ∙ rw q in ap (λ (x : ℕ). eqb x 0) z ∙ h j k
 
-  pub alone-ready : Ready (length writer) (stateOf placed cells 1024 (length writer))
+  pub alone-ready : Ready (length writer) (stateOf placed cells (length cells) (length writer))
   alone-ready =
       record {
         size = n;
         within = omega arith;
         marks = m;
-        cells = c;
         high = omega arith;
         room = omega (arith, upto-length (isFree placed) (length writer));
         above = λ j a b. absurd (omega arith);
       }
 
-  pub alone-whose : Whose writer (stateOf placed cells 1024 (length writer)) w
+  pub alone-whose : Whose writer (stateOf placed cells (length cells) (length writer)) w
   alone-whose = record { inside = l; write = e; free = own-free w l (rw e (eq-eqb w w refl)) }
 
-  module _ (placed' cells' : List ℕ) (r : ℕ) (o : Owned writer w (stateOf placed cells 1024 (length writer)) (stateOf placed' cells' r (length writer))) where
-    pub alone-laid : (drop r cells' ≡ clusterAt writer w) × (r ≤ 1024)
+  module _ (placed' cells' : List ℕ) (r : ℕ) (o : Owned writer w (stateOf placed cells (length cells) (length writer)) (stateOf placed' cells' r (length writer))) where
+    pub alone-laid : (drop r cells' ≡ clusterAt writer w) × (r ≤ length cells')
     alone-laid = (
       o .order
-          ∙ ap (λ (k : List ℕ). w ∷ (k ++ drop 1024 cells)) (upto-ext (length writer) (λ j k. same j k (mine writer w j) refl))
-          ∙ ap (λ (k : List ℕ). w ∷ (upto (readOf writer w) (length writer) ++ k)) (drop-of-length-le cells {i = 1024} (omega arith))
+          ∙ ap (λ (k : List ℕ). w ∷ (k ++ drop (length cells) cells)) (upto-ext (length writer) (λ j k. same j k (mine writer w j) refl))
+          ∙ ap (λ (k : List ℕ). w ∷ (upto (readOf writer w) (length writer) ++ k)) (drop-of-length-le cells {i = length cells} (omega arith))
           ∙ ap (λ (k : List ℕ). w ∷ k) (append-nil (upto (readOf writer w) (length writer))),
-      omega (arith, o .high),
+      omega (arith, o .high, o .cells),
     )
       where
-        same : (j : ℕ) → j < length writer → (b : Bool) → mine writer w j ≡ b → Mine writer w (stateOf placed cells 1024 (length writer)) j ≡ readOf writer w j
+        same : (j : ℕ) → j < length writer → (b : Bool) → mine writer w j ≡ b → Mine writer w (stateOf placed cells (length cells) (length writer)) j ≡ readOf writer w j
         same j k true q = rw (own-free j k q)
         same j k false q = rw q (no-cond (isFree placed j))
 

@@ -1,5 +1,4 @@
 // FZF's chunks over the columns: the runs of forward zones, the backward zones inside them, and the dangling ones.
-use history::Row;
 ghost use mathlib.Core.Path.{_≡_};
 ghost use mathlib.Core.Bool.{true};
 ghost use mathlib.Core.List.{List};
@@ -237,11 +236,12 @@ pub fn cluster(
 ) -> usize
     requires { ⌜ Linked (now writer) (now last) (now prev) ⌝ }
     requires { ⌜ (w < length (now writer)) × (getD (now writer) w 0 ≡ w) ⌝ }
-    requires { ⌜ (length (now writer) ≤ largestCount) × (length (now placed) ≡ largestCount) × (length (now order) ≡ largestCount) ⌝ }
+    requires { ⌜ (length (now writer) ≤ largestCount) × (length (now writer) ≤ length (now placed)) × (length (now writer) ≤ length (now order)) ⌝ }
     requires { ⌜ Shut (length (now writer)) (now placed) ⌝ }
-    ensures end { λ r. ⌜ (drop r (now (order .exit)) ≡ clusterAt (now (writer .entry)) w) × (r ≤ largestCount) ⌝ }
+    ensures end { λ r. ⌜ (drop r (now (order .exit)) ≡ clusterAt (now (writer .entry)) w) × (r ≤ length (now (order .exit))) ⌝ }
     ensures marks { λ _. ⌜ Shut (length (now (writer .entry))) (now (placed .exit)) ⌝ }
 {
     freeing::dye(writer, last, prev, w, freeing::FREE, placed);
-    placing::own(writer, last, prev, placed, order, Row::LARGEST_COUNT, w)
+    let end = order.len();
+    placing::own(writer, last, prev, placed, order, end, w)
 }

@@ -31,10 +31,10 @@ module _ (writer list : List ℕ) where
   shut-within placed h j l e = absurd (both e (h j l))
 
   -- set free
-  pub within-freed : (old placed order : List ℕ) (top : ℕ) → Within writer list old → Painted writer list 0 old placed → length placed ≡ 1024 → length order ≡ 1024 →
-      top ≤ length writer → Topped writer list top → Freed writer list (stateOf placed order 1024 top)
+  pub within-freed : (old placed order : List ℕ) (top : ℕ) → Within writer list old → Painted writer list 0 old placed → length writer ≤ length placed → length writer ≤ length order →
+      top ≤ length writer → Topped writer list top → Freed writer list (stateOf placed order (length order) top)
   within-freed old placed order top h p s c low t =
-      record { sized = s; cells = c; at = refl; low = low; topped = t; free = λ j l. go j l (test (unlisted list (getD writer j 0))) (test (isFree old j)) }
+      record { marks = s; cells = c; at = refl; low = low; topped = t; free = λ j l. go j l (test (unlisted list (getD writer j 0))) (test (isFree old j)) }
     where
       go : (j : ℕ) → j < length writer → (unlisted list (getD writer j 0) ≡ true) ⊎ (unlisted list (getD writer j 0) ≡ false) → (isFree old j ≡ true) ⊎ (isFree old j ≡ false) →
           isFree placed j ≡ not (unlisted list (getD writer j 0))
@@ -72,7 +72,7 @@ module _ (writer list : List ℕ) where
         ∙ upto-ext (length writer) (f .free)
 
     pub freed-laid : laid s ≡ []
-    freed-laid = rw (f .at) (drop-of-length-le (s .order) {i = 1024} (omega (arith, f .cells)))
+    freed-laid = rw (f .at) (drop-of-length-le (s .order) {i = length (s .order)} (omega arith))
 
 -- the state holds
 pub freed-holds : (C : Cols) → Sound C → size C ≤ 1024 → {list : List ℕ} {s : State} → Freed (C .writer) list s → Holds C s
@@ -82,10 +82,9 @@ freed-holds C p n {list} {s} f =
           record {
             size = n;
             within = omega (arith, f .low, p .shape .long);
-            marks = f .sized;
-            cells = f .cells;
+            marks = omega (arith, f .marks, p .shape .long);
             high = omega (arith, f .at);
-            room = omega (arith, f .at, f .low, p .shape .long, upto-length (isFree (s .placed)) (s .top));
+            room = omega (arith, f .at, f .cells, f .low, p .shape .long, upto-length (isFree (s .placed)) (s .top));
             above = λ j k l. let i : j < length (C .writer) = omega (arith, p .shape .long) in f .free j i ∙ ap not (f .topped j i k);
           };
       closed = λ j l e. at (wr C j) (p .shape .writers j l) ∙ ap (λ (v : ℕ). not (unlisted list v)) (p .writes j l) ∙ sym (at j l) ∙ e;

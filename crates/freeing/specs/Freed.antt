@@ -5,7 +5,6 @@ use mathlib.Core.Path.{_≡_}
 use mathlib.Core.Bool.{true, false, not}
 use mathlib.Core.List.{List}
 use lib.ListN.{length, getD}
-use Rattle.history.specs.Table.{largestCount}
 use Rattle.positions.specs.Places.{upto}
 use Rattle.placing.specs.declared.State.{State}
 use Rattle.placing.specs.States.{isFree}
@@ -29,9 +28,9 @@ clustersOf writer list = upto (λ j. not (unlisted list (getD writer j 0))) (len
 
 -- nothing is laid, and the clusters of the listed writes, all of them, are to be placed
 pub record Freed (writer list : List ℕ) (s : State) : Type 0 where
-  pub sized : length (s .placed) ≡ largestCount
-  pub cells : length (s .order) ≡ largestCount
-  pub at : s .at ≡ largestCount
+  pub marks : length writer ≤ length (s .placed)
+  pub cells : length writer ≤ length (s .order)
+  pub at : s .at ≡ length (s .order)
   pub low : s .top ≤ length writer
   pub topped : Topped writer list (s .top)
   pub free : (j : ℕ) → j < length writer → isFree (s .placed) j ≡ not (unlisted list (getD writer j 0))

@@ -122,7 +122,6 @@ module _ (C : Cols) (p : Sound C) (n : size C ≤ 1024) (late : List ℕ) (g : Z
       rw q
       (an-order
       (record {
-        cells = x .sized;
         high = x .high;
         whole = λ H o. made-is H o ∙ x .whole H o ∙ ap (λ (l : List ℕ). order (ops H l)) (sym (append-nil (x .placed)) ∙ x .lays);
       }))

@@ -19,11 +19,12 @@ use Rattle.history.specs.declared.Op.{Op}
 use Rattle.methods.specs.Zones.{order}
 use Rattle.methods.specs.Fzf.{Item, runs, dangles, made, items, putBefore, join, fzf}
 use Rattle.methods.specs.Mark.{untried}
-use Rattle.positions.specs.Columns.{Cols, size, Sound, op, ops, Of, Says}
+use Rattle.positions.specs.Columns.{Cols, size, op, ops, Of, Says}
 use Rattle.positions.proofs.Columns.{size-is}
 use Rattle.placing.specs.States.{isFree}
 use Rattle.placing.specs.Searched.{Searched, is-stale, is-fresh}
 use Rattle.zones.specs.Zones.{Zoned}
+use Rattle.freeing.specs.Freed.{Shut}
 use Rattle.viability.proofs.Two.{orderOf, made-order, join-done, done-short}
 use Rattle.chunking.specs.Chunks.{danglesBy, Skips}
 use Rattle.chunking.proofs.Sides.{side-in, forwards-is, backwards-is}
@@ -73,28 +74,25 @@ flat-one f [] i = append-nil (f i)
 flat-one f (x ∷ a) i = rw (flat-one f a i) (sym (append-assoc (f x) (flatMap f a) (f i)))
 
 -- a part's end, as it is lent
-pub part-whole : (part : List ℕ) (at : ℕ) → length part ≡ 1024 → take (1024 - at) (drop at part) ≡ drop at part
-part-whole part at e = take-all (1024 - at) (drop at part) (rw (length-drop) (omega arith))
+pub part-whole : (part : List ℕ) (at : ℕ) → take (length part - at) (drop at part) ≡ drop at part
+part-whole part at = take-all (length part - at) (drop at part) (rw (length-drop) (omega arith))
 
 -- at the outset everything is shut, and no backward zone was looked at
-pub poised-none : (C : Cols) → Sound C → size C ≤ 1024 → (late F B : List ℕ) → Poised C late F B 0 0 (replicate 1024 1)
-poised-none C p n late F B =
-    record {
-      shut = λ j l. rw (getD-replicate {A = ℕ} 1024 j 1 0 (omega (arith, p .shape .long)));
-      behind = λ l. record { within = omega arith; lows = λ k b. absurd (omega arith) };
-    }
-
-pub lent-none : (n : ℕ) (list turn : List ℕ) → n ≤ length list → n ≤ length turn → Lent n list turn (replicate 1024 1) (replicate 1024 0)
-lent-none n list turn x y = record { inner = x; turns = y; marks = length-replicate {A = ℕ} 1024 1; cells = length-replicate {A = ℕ} 1024 0 }
+pub poised-none : (C : Cols) (late F B placed : List ℕ) → Shut (length (C .writer)) placed → Poised C late F B 0 0 placed
+poised-none C late F B placed h = record { shut = h; behind = λ l. record { within = omega arith; lows = λ k b. absurd (omega arith) } }
 
 -- no place is marked at the outset
 pub unmarked : (n i : ℕ) → i < length (replicate {A = ℕ} n 0) → isFree (replicate n 0) i ≡ true
 unmarked n i l = rw (getD-replicate {A = ℕ} n i 0 0 (omega (arith, l, length-replicate {A = ℕ} n 0)))
 
+-- everything is shut
+pub shut-all : (n m : ℕ) → m ≤ n → Shut m (replicate n 1)
+shut-all n m h j l = rw (getD-replicate {A = ℕ} n j 1 0 (omega arith))
+
 -- after an item the places are as many
 pub lent-again : {n : ℕ} {list turn placed part : List ℕ} → Lent n list turn placed part → (list' turn' placed' part' : List ℕ) → length list' ≡ length list → length turn' ≡ length turn →
     length placed' ≡ length placed → length part' ≡ length part → Lent n list' turn' placed' part'
-lent-again l list' turn' placed' part' a b c d = record { inner = omega (arith, a, l .inner); turns = omega (arith, b, l .turns); marks = c ∙ l .marks; cells = d ∙ l .cells }
+lent-again l list' turn' placed' part' a b c d = record { inner = omega (arith, a, l .inner); turns = omega (arith, b, l .turns); marks = omega (arith, c, l .marks); cells = omega (arith, d, l .cells) }
 
 module _ (C : Cols) (late : List ℕ) (g : Zoned C late) where
   abbrev F : List ℕ

@@ -209,11 +209,11 @@ module _ (C : Cols) (p : Sound C) (late : List ℕ) (g : Zoned C late) where
         go true (chunk-low l m i) c = l
         go false m c = absurd (both c refl)
 
-    pub next-cluster : a ≤ length F → j < length B → chunkFirst (C .finish) late F B a j ≡ false → (part : List ℕ) (at : ℕ) → length part ≡ 1024 →
-        (drop at part ≡ clusterAt (C .writer) (getD B j 0)) × (at ≤ 1024) → (i : ℕ) →
+    pub next-cluster : a ≤ length F → j < length B → chunkFirst (C .finish) late F B a j ≡ false → (part : List ℕ) (at : ℕ) →
+        (drop at part ≡ clusterAt (C .writer) (getD B j 0)) × (at ≤ length part) → (i : ℕ) →
         Nexts C F B a j part (record { at = at; failed = false; forward = a; backward = j + 1; inner = i })
     unfolding made
-    next-cluster h k e part at z x i =
+    next-cluster h k e part at x i =
         goes refl
         (record {
           item = λ H. dangling (op H (getD B j 0));
@@ -222,7 +222,6 @@ module _ (C : Cols) (p : Sound C) (late : List ℕ) (g : Zoned C late) where
           on = omega arith;
           holds =
               record {
-                cells = z;
                 high = x .1;
                 whole = λ H o.
                     let w = side-write C p late false (getD-in B 0 j k) in

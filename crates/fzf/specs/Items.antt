@@ -6,7 +6,6 @@ use mathlib.Core.Path.{_≡_}
 use mathlib.Core.Bool.{Bool, true, false}
 use mathlib.Core.List.{List, _∷_, List·Memᴰ as In}
 use lib.ListN.{length, getD, drop}
-use Rattle.history.specs.Table.{largestCount}
 use Rattle.lists.specs.Lists.{keep}
 use Rattle.lists.specs.Pairs.{Pairs}
 use Rattle.history.specs.declared.Op.{Op}
@@ -47,8 +46,8 @@ runOf H run top = record { first = op H (getD run 0 0); more = ops H (drop 1 run
 pub record Lent (n : ℕ) (list turn placed part : List ℕ) : Type 0 where
   pub inner : n ≤ length list
   pub turns : n ≤ length turn
-  pub marks : length placed ≡ largestCount
-  pub cells : length part ≡ largestCount
+  pub marks : n ≤ length placed
+  pub cells : n ≤ length part
 
 -- between two items: nothing is to be placed, and the backward zones before i are too low for the runs from a on
 pub record Poised (C : Cols) (late F B : List ℕ) (a i : ℕ) (placed : List ℕ) : Type 0 where
@@ -57,8 +56,7 @@ pub record Poised (C : Cols) (late F B : List ℕ) (a i : ℕ) (placed : List �
 
 -- what stands in a part from `at` on is the order of an item
 pub record Holds-order (C : Cols) (item : List Op → Item) (part : List ℕ) (at : ℕ) : Type 0 where
-  pub cells : length part ≡ largestCount
-  pub high : at ≤ largestCount
+  pub high : at ≤ length part
   pub whole : Says C (λ H. made H (item H) ≡ order (ops H (drop at part)))
 
 -- THE CONTRACT of a chunk: it has no viable order, or this one

@@ -226,7 +226,7 @@ fn ended(order: [u64; Row::LARGEST_COUNT], m: usize, kind: u64) -> Search
     }
 }
 
-// Joins the items by low end; the backward writes inside a run are marked, and `list` and `turn` have a place for each operation.
+// Joins the items by low end; the backward writes inside a run are marked, and the lent slices have a place for each operation.
 fn join(
     start: &[u64],
     finish: &[u64],
@@ -239,6 +239,8 @@ fn join(
     marks: &[u8],
     list: &mut [u64],
     turn: &mut [u64],
+    placed: &mut [u8],
+    part: &mut [u64],
 ) -> Search
     requires { ⌜ Sound (cols (now start) (now finish) (now writer) (now last) (now prev)) ⌝ }
     requires { ⌜ length (now start) ≤ largestCount ⌝ }
@@ -248,13 +250,11 @@ fn join(
     requires { ⌜ now backwards ≡ backs (cols (now start) (now finish) (now writer) (now last) (now prev)) (now late) ⌝ }
     requires { ⌜ length (now start) ≤ length (now marks) ⌝ }
     requires { ⌜ Hangs (now finish) (now late) (now forwards) (now backwards) (now marks) ⌝ }
-    requires { ⌜ length (now start) ≤ length (now list) ⌝ }
-    requires { ⌜ length (now start) ≤ length (now turn) ⌝ }
+    requires { ⌜ Lent (length (now start)) (now list) (now turn) (now placed) (now part) ⌝ }
+    requires { ⌜ Shut (length (now writer)) (now placed) ⌝ }
     ensures { λ r. ⌜ ((allowance : ℕ) → Searched (cols (now (start .entry)) (now (finish .entry)) (now (writer .entry)) (now (last .entry)) (now (prev .entry))) allowance (λ H. untried (fzf H)) r) ⌝ }
 {
     let mut order = [0u64; Row::LARGEST_COUNT];
-    let mut part = [0u64; Row::LARGEST_COUNT];
-    let mut placed = [1u8; Row::LARGEST_COUNT];
     let mut m: usize = 0;
     let mut a: usize = 0;
     let mut j: usize = 0;
@@ -278,8 +278,8 @@ fn join(
             i,
             list,
             turn,
-            &mut placed,
-            &mut part,
+            placed,
+            part,
         );
         if next.failed {
             return ended(order, 0, Search::STALE);
@@ -305,6 +305,8 @@ fn sides(
     marks: &mut [u8],
     list: &mut [u64],
     turn: &mut [u64],
+    placed: &mut [u8],
+    part: &mut [u64],
 ) -> Search
     requires { ⌜ Sound (cols (now start) (now finish) (now writer) (now last) (now prev)) ⌝ }
     requires { ⌜ length (now start) ≤ largestCount ⌝ }
@@ -314,8 +316,8 @@ fn sides(
     requires { ⌜ now backwards ≡ backs (cols (now start) (now finish) (now writer) (now last) (now prev)) (now late) ⌝ }
     requires { ⌜ length (now start) ≤ length (now marks) ⌝ }
     requires { ⌜ ((i : ℕ) → i < length (now marks) → isFree (now marks) i ≡ true) ⌝ }
-    requires { ⌜ length (now start) ≤ length (now list) ⌝ }
-    requires { ⌜ length (now start) ≤ length (now turn) ⌝ }
+    requires { ⌜ Lent (length (now start)) (now list) (now turn) (now placed) (now part) ⌝ }
+    requires { ⌜ Shut (length (now writer)) (now placed) ⌝ }
     ensures { λ r. ⌜ ((allowance : ℕ) → Searched (cols (now (start .entry)) (now (finish .entry)) (now (writer .entry)) (now (last .entry)) (now (prev .entry))) allowance (λ H. untried (fzf H)) r) ⌝ }
 {
     chunking::mark_inner(finish, late, forwards, backwards, list, marks);
@@ -331,10 +333,12 @@ fn sides(
         marks,
         list,
         turn,
+        placed,
+        part,
     )
 }
 
-// FZF, where `late` has a place for each operation, the other slices at least as many, and the marks are clean.
+// FZF, where `late` has a place for each operation, the other slices at least as many, the marks are clean, and everything is shut.
 fn search_with(
     start: &[u64],
     finish: &[u64],
@@ -347,6 +351,8 @@ fn search_with(
     backwards: &mut [u64],
     inner: &mut [u64],
     marks: &mut [u8],
+    placed: &mut [u8],
+    part: &mut [u64],
 ) -> Search
     requires { ⌜ Sound (cols (now start) (now finish) (now writer) (now last) (now prev)) ⌝ }
     requires { ⌜ length (now start) ≤ largestCount ⌝ }
@@ -358,6 +364,9 @@ fn search_with(
     requires { ⌜ length (now start) ≤ length (now inner) ⌝ }
     requires { ⌜ length (now start) ≤ length (now marks) ⌝ }
     requires { ⌜ ((i : ℕ) → i < length (now marks) → isFree (now marks) i ≡ true) ⌝ }
+    requires { ⌜ length (now start) ≤ length (now placed) ⌝ }
+    requires { ⌜ Shut (length (now writer)) (now placed) ⌝ }
+    requires { ⌜ length (now start) ≤ length (now part) ⌝ }
     ensures { λ r. ⌜ ((allowance : ℕ) → Searched (cols (now (start .entry)) (now (finish .entry)) (now (writer .entry)) (now (last .entry)) (now (prev .entry))) allowance (λ H. untried (fzf H)) r) ⌝ }
 {
     zones::lates(start, writer, last, late);
@@ -377,6 +386,8 @@ fn search_with(
         marks,
         inner,
         list,
+        placed,
+        part,
     )
 }
 
@@ -394,6 +405,8 @@ fn search_few(start: &[u64], finish: &[u64], writer: &[u64], last: &[u64], prev:
     let mut backwards = [0u64; zones::FEW];
     let mut inner = [0u64; zones::FEW];
     let mut marks = [0u8; zones::FEW];
+    let mut placed = [1u8; zones::FEW];
+    let mut part = [0u64; zones::FEW];
     search_with(
         start,
         finish,
@@ -406,6 +419,8 @@ fn search_few(start: &[u64], finish: &[u64], writer: &[u64], last: &[u64], prev:
         &mut backwards,
         &mut inner,
         &mut marks,
+        &mut placed,
+        &mut part,
     )
 }
 
@@ -423,6 +438,8 @@ fn search_many(start: &[u64], finish: &[u64], writer: &[u64], last: &[u64], prev
     let mut backwards = [0u64; Row::LARGEST_COUNT];
     let mut inner = [0u64; Row::LARGEST_COUNT];
     let mut marks = [0u8; Row::LARGEST_COUNT];
+    let mut placed = [1u8; Row::LARGEST_COUNT];
+    let mut part = [0u64; Row::LARGEST_COUNT];
     search_with(
         start,
         finish,
@@ -435,6 +452,8 @@ fn search_many(start: &[u64], finish: &[u64], writer: &[u64], last: &[u64], prev
         &mut backwards,
         &mut inner,
         &mut marks,
+        &mut placed,
+        &mut part,
     )
 }
 

@@ -5,6 +5,7 @@ use mathlib.Core.Path.{_≡_, refl, ap, sym, _∙_}
 use mathlib.Core.Bool.{true, false}
 use mathlib.Core.List.{List, [], _++_, append-assoc, append-nil}
 use native.Mathlib.Omega.{arith}
+use lib.ListN.{length}
 use Rattle.lists.proofs.Tests.{both}
 use Rattle.lists.proofs.Counts.{some-length}
 use Rattle.lists.proofs.Images.{map-append}
@@ -48,6 +49,8 @@ pub record Onward (H : List Op) (w : ℕ) (s : State) (v : ℕ) (t : State) (ord
 -- the invariant: from w in s the epoch has come to v in t
 pub record Running (C : Cols) (w : ℕ) (s : State) (v : ℕ) (t : State) : Type 0 where
   pub holds : Holds C t
+  pub marks : length (t .placed) ≡ length (s .placed)
+  pub cells : length (t .order) ≡ length (s .order)
   pub whose : Whose (C .writer) t v
   pub less : t .at ≤ s .at
   pub shrinks : (j : ℕ) → j < size C → isFree (t .placed) j ≡ true → isFree (s .placed) j ≡ true
@@ -60,6 +63,8 @@ module _ (C : Cols) (p : Sound C) (w : ℕ) (s : State) where
   run-none h k =
       record {
         holds = h;
+        marks = refl;
+        cells = refl;
         whose = k;
         less = omega arith;
         shrinks = λ j l e. e;
@@ -100,6 +105,8 @@ module _ (C : Cols) (p : Sound C) (w : ℕ) (s : State) where
         wins refl
         (record {
           holds = x .holds;
+          marks = x .marks ∙ g .marks;
+          cells = x .cells ∙ g .cells;
           less = omega (arith, x .less, g .less);
           shrinks = λ j l e. g .shrinks j l (x .shrinks j l e);
           order = x .order ++ g .order;
@@ -115,6 +122,8 @@ module _ (C : Cols) (p : Sound C) (w : ℕ) (s : State) where
       x .less,
       record {
         holds = x .holds;
+        marks = x .marks ∙ g .marks;
+        cells = x .cells ∙ g .cells;
         whose = x .next (r .asked - 1) (omega arith);
         less = omega (arith, x .less, g .less);
         shrinks = λ j l e. g .shrinks j l (x .shrinks j l e);

@@ -23,11 +23,11 @@ use Rattle.positions.specs.Places.{latest}
 use Rattle.positions.specs.Columns.{Cols, size, wr, isOwn, byFinish, Sound, op, ops, Of, Says}
 use Rattle.positions.proofs.Places.{upto-empty}
 use Rattle.positions.proofs.Latest.{latest-le, latest-none, latest-at}
-use Rattle.placing.specs.States.{isFree, left, laid, begun, Holds, Whose}
+use Rattle.placing.specs.States.{isFree, left, laid, begun, Sized, Holds, Whose}
 use Rattle.placing.specs.Searched.{found, Searched, is-stale, is-fresh, is-spent as over}
 use Rattle.placing.specs.declared.State.{State}
 use Rattle.placing.proofs.Lates.{whose-write}
-use Rattle.placing.proofs.Begun.{begun-laid, begun-holds, begun-left}
+use Rattle.placing.proofs.Begun.{begun-laid, begun-sized, begun-holds, begun-left}
 use Rattle.lbt.specs.Epochs.{epochOf, Wins}
 use Rattle.lbt.specs.Rounds.{openWrite, Lowest, Skipped, roundOf, tried, ended, answered, Turned, is-lost, is-won, is-spent}
 use Rattle.lbt.specs.declared.Turn.{Turn}
@@ -92,6 +92,7 @@ pub record Ahead (H : List Op) (s : State) (count : ℕ) : Type 0 where
 -- the invariant, before a round
 pub record Walking (C : Cols) (F : List ℕ) (allowance : ℕ) (s : State) (low from count : ℕ) : Type 0 where
   pub holds : Holds C s
+  pub sized : Sized s
   pub bottom : low ≤ size C
   pub above : (j : ℕ) → low ≤ j → j < size C → openWrite (C .writer) (s .placed) j ≡ false
   pub skipped : Skipped F (s .placed) from
@@ -110,6 +111,7 @@ module _ (C : Cols) (p : Sound C) (n : size C ≤ 1024) (F : List ℕ) (q : F �
       rw e
       (record {
         holds = begun-holds C p n;
+        sized = begun-sized (size C);
         bottom = omega arith;
         above = λ j a b. absurd (omega arith);
         skipped = record { high = omega arith; gone = λ i a. absurd (omega arith) };
@@ -134,7 +136,7 @@ module _ (C : Cols) (p : Sound C) (n : size C ≤ 1024) (F : List ℕ) (q : F �
 
     -- no write is left, so nothing is
     pub walk-ends : next ≡ 0 → Searched C allowance (λ H. walked (lbt H)) (answered (ended s count 1))
-    walk-ends z = is-fresh refl (g .small) (g .holds .ready .high) (omega arith) (g .holds .ready .cells) (λ H f. says H f)
+    walk-ends z = is-fresh refl (g .small) (omega (arith, g .holds .ready .high, g .sized .cells)) (omega arith) (g .sized .cells) (λ H f. says H f)
       where
         nothing : (j : ℕ) → j < s .top → isFree (s .placed) j ≡ false
         nothing j l = go (isFree (s .placed) j) refl
@@ -153,7 +155,7 @@ module _ (C : Cols) (p : Sound C) (n : size C ≤ 1024) (F : List ℕ) (q : F �
         empty = upto-empty (isFree (s .placed)) (s .top) nothing
 
         all-laid : found (answered (ended s count 1)) ≡ laid s
-        all-laid = take-all (1024 - s .at) (laid s) (omega (arith, length-drop (s .at) (s .order), g .holds .ready .cells))
+        all-laid = take-all (1024 - s .at) (laid s) (omega (arith, length-drop (s .at) (s .order), g .sized .cells))
 
         says : (H : List Op) → Of C H → walked (lbt H) ≡ record { decision = orderOf (ops H (found (answered (ended s count 1)))); trials = count }
         says H f =
@@ -226,6 +228,7 @@ module _ (C : Cols) (p : Sound C) (n : size C ≤ 1024) (F : List ℕ) (q : F �
         x .less,
         record {
           holds = x .holds;
+          sized = record { marks = x .marks ∙ g .sized .marks; cells = x .cells ∙ g .sized .cells };
           bottom = walk-low;
           above = λ j l m. closes j m (latest-none O (size C) j (omega (arith, all-latest)) m);
           skipped = record { high = v .high; gone = λ i a. shuts (getD F i 0) (falls-under i (omega (arith, v .high))) (v .gone i a) };

@@ -5,6 +5,7 @@ use Prim.Native.Nat.{ℕ, _<_}
 use mathlib.Core.Path.{_≡_}
 use mathlib.Core.Bool.{true, false}
 use mathlib.Core.List.{List, _++_}
+use lib.ListN.{length}
 use Rattle.history.specs.declared.Op.{Op}
 use Rattle.methods.specs.Place.{writeCount}
 use Rattle.methods.specs.Lbt.{Epoch, failed, placed, epoch}
@@ -20,6 +21,8 @@ epochOf H s w = epoch (writeCount (ops H (left s))) (op H w) (ops H (left s))
 -- from s the epoch of w wins, and ends in r: what is left then, and what was put in front
 pub record Wins (C : Cols) (w : ℕ) (s r : State) : Type 0 where
   pub holds : Holds C r
+  pub marks : length (r .placed) ≡ length (s .placed)
+  pub cells : length (r .order) ≡ length (s .order)
   pub less : r .at < s .at
   pub shrinks : (j : ℕ) → j < size C → isFree (r .placed) j ≡ true → isFree (s .placed) j ≡ true
   pub order : List ℕ

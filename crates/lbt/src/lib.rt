@@ -11,7 +11,7 @@ ghost use Rattle.methods.specs.Mark.{walked};
 ghost use Rattle.methods.specs.Lbt.{lbt};
 ghost use Rattle.positions.specs.Places.{latest};
 ghost use Rattle.positions.specs.Columns.{cols, byFinish, Sound};
-ghost use Rattle.placing.specs.States.{Holds, Whose};
+ghost use Rattle.placing.specs.States.{Sized, Holds, Whose};
 ghost use Rattle.placing.specs.Searched.{Searched};
 ghost use Rattle.lbt.specs.Epochs.{Ran};
 ghost use Rattle.lbt.specs.Rounds.{openWrite, Lowest, Skipped, Turned, ended, answered};
@@ -36,6 +36,7 @@ fn epoch(
     requires { ⌜ Sound (cols (now start) (now finish) (now writer) (now last) (now prev)) ⌝ }
     requires { ⌜ Holds (cols (now start) (now finish) (now writer) (now last) (now prev)) s ⌝ }
     requires { ⌜ Whose (now writer) s w ⌝ }
+    requires { ⌜ Sized s ⌝ }
     ensures { λ r. ⌜ Ran (cols (now (start .entry)) (now (finish .entry)) (now (writer .entry)) (now (last .entry)) (now (prev .entry))) w s r ⌝ }
 {
     let mut placed = s.placed;
@@ -151,6 +152,7 @@ fn round(
     requires { ⌜ low ≤ length (now start) ⌝ }
     requires { ⌜ Skipped (now falling) (s .placed) from ⌝ }
     requires { ⌜ trials ≤ allowance ⌝ }
+    requires { ⌜ Sized s ⌝ }
     ensures { λ r. ⌜ Turned (cols (now (start .entry)) (now (finish .entry)) (now (writer .entry)) (now (last .entry)) (now (prev .entry))) s trials allowance r ⌝ }
 {
     let newest = start[low - 1];

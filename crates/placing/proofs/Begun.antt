@@ -11,7 +11,7 @@ use Rattle.positions.specs.Columns.{Cols, size, wr, Sound, ops, Says}
 use Rattle.positions.proofs.Places.{upto-length}
 use Rattle.positions.proofs.Ops.{ops-all}
 use Rattle.positions.proofs.Columns.{size-is}
-use Rattle.placing.specs.States.{isFree, left, laid, begun, Ready, Holds}
+use Rattle.placing.specs.States.{isFree, left, laid, begun, Sized, Ready, Holds}
 
 pub begun-laid : (n : ℕ) → laid (begun n) ≡ []
 unfolding begun
@@ -27,12 +27,15 @@ begun-ready n h =
     record {
       size = h;
       within = omega arith;
-      marks = length-replicate {A = ℕ} 1024 0;
-      cells = length-replicate {A = ℕ} 1024 0;
-      high = omega arith;
+      marks = omega (arith, length-replicate {A = ℕ} 1024 0);
+      high = omega (arith, length-replicate {A = ℕ} 1024 0);
       room = omega (arith, upto-length (isFree (replicate 1024 0)) n);
       above = λ j a b. absurd (omega arith);
     }
+
+pub begun-sized : (n : ℕ) → Sized (begun n)
+unfolding begun
+begun-sized n = record { marks = length-replicate {A = ℕ} 1024 0; cells = length-replicate {A = ℕ} 1024 0 }
 
 module _ (C : Cols) (p : Sound C) (n : size C ≤ 1024) where
   pub begun-holds : Holds C (begun (size C))

@@ -43,7 +43,7 @@ module _ (writer last prev : List ℕ) (w : ℕ) (p : Linked writer last prev) (
   link-none =
       rw (p .lasts w (h .inside) (h .write))
       (record {
-        moved = moved-down (latest (readOf writer w) (length writer)) (latest-le _ _) (λ j a b. not-mine j (latest-none _ _ j a b)) (moved-none (r .marks) (r .cells) (r .high) (omega (arith, enough)));
+        moved = moved-down (latest (readOf writer w) (length writer)) (latest-le _ _) (λ j a b. not-mine j (latest-none _ _ j a b)) (moved-none (r .high) (omega (arith, enough)));
         top = refl;
         link = latest-at (readOf writer w) (length writer);
       })
@@ -80,7 +80,7 @@ module _ (writer last prev : List ℕ) (w : ℕ) (p : Linked writer last prev) (
       taken = rw (eq-eqb (getD (s .placed) (k - 1) 0) 0 (sym same-mark ∙ z)) (g .link some)
 
       pushed : (0 < t .at) × Moved (Mine writer w s) (length writer) (k - 1) s (set (t .placed) (k - 1) 1) (set (t .order) (t .at - 1) (k - 1)) (t .at - 1)
-      pushed = moved-push (k - 1) (omega arith) (omega (arith, r .size, inside)) taken (g .moved)
+      pushed = moved-push (k - 1) (omega arith) (omega (arith, r .marks, inside)) taken (g .moved)
 
       pub link-room : 0 < t .at
       link-room = pushed .0
@@ -105,7 +105,7 @@ module _ (writer last prev : List ℕ) (w : ℕ) (p : Linked writer last prev) (
 
     spent : t .at + length (upto (Mine writer w s) (length writer)) ≡ s .at
     spent =
-        omega (arith, simp (length-append, length-drop) at (ap length back), ended .cells, r .cells, ended .high, r .high, enough)
+        omega (arith, simp (length-append, length-drop) at (ap length back), ended .cells, ended .high, r .high, enough)
 
     pub own-room : 0 < t .at
     own-room = omega (arith, spent, enough)
@@ -132,7 +132,7 @@ module _ (writer last prev : List ℕ) (w : ℕ) (p : Linked writer last prev) (
         frees : (j : ℕ) → j < length writer → (eqb j w ≡ true) ⊎ (eqb j w ≡ false) → isFree (set (t .placed) w 1) j ≡ and (isFree (s .placed)) (λ i. not (mine writer w i)) j
         frees j l (inl e) =
             let q : j ≡ w = eqb-true j w e in
-            let i : w < length (t .placed) = omega (arith, ended .marks, r .size, h .inside) in
+            let i : w < length (t .placed) = omega (arith, ended .marks, r .marks, h .inside) in
             rw (q, getD-set-same (t .placed) w 1 0, h .write, eq-eqb w w refl) (sym (no-cond (isFree (s .placed) w)))
         frees j l (inr e) =
             let d : j ≢ w = eqb-false j w e in

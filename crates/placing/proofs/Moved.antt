@@ -18,9 +18,9 @@ use Rattle.placing.specs.declared.State.{State}
 -- the invariant: what is still to move, then the order, is constant
 pub record Moved (L : ℕ → Bool) (m k : ℕ) (s : State) (p o : List ℕ) (a : ℕ) : Type 0 where
   pub within : k ≤ m
-  pub marks : length p ≡ 1024
-  pub cells : length o ≡ 1024
-  pub high : a ≤ 1024
+  pub marks : length p ≡ length (s .placed)
+  pub cells : length o ≡ length (s .order)
+  pub high : a ≤ length (s .order)
   pub room : length (upto L k) ≤ a
   pub gone : (j : ℕ) → k ≤ j → j < m → L j ≡ true → isFree p j ≡ false
   pub kept : (j : ℕ) → (j < k) ⊎ (L j ≡ false) → getD p j 0 ≡ getD (s .placed) j 0
@@ -36,13 +36,13 @@ laid-push o a i h k =
     drop-cons (set o (a - 1) i) (a - 1) 0 n ∙ rw (u, getD-set-same o (a - 1) i 0, drop-set-lt a o (a - 1) i)
 
 module _ {L : ℕ → Bool} {m : ℕ} {s : State} where
-  pub moved-none : length (s .placed) ≡ 1024 → length (s .order) ≡ 1024 → s .at ≤ 1024 → length (upto L m) ≤ s .at
+  pub moved-none : s .at ≤ length (s .order) → length (upto L m) ≤ s .at
       → Moved L m m s (s .placed) (s .order) (s .at)
-  moved-none a b c d =
+  moved-none c d =
       record {
         within = omega arith;
-        marks = a;
-        cells = b;
+        marks = refl;
+        cells = refl;
         high = c;
         room = d;
         gone = λ j h k e. absurd (omega arith);
@@ -75,7 +75,7 @@ module _ {L : ℕ → Bool} {m : ℕ} {s : State} where
         keeps j (inr c) = g .kept j (inr c)
 
     -- one position of L
-    pub moved-push : (i : ℕ) → k ≡ i + 1 → i < 1024 → L i ≡ true → Moved L m k s p o a
+    pub moved-push : (i : ℕ) → k ≡ i + 1 → i < length (s .placed) → L i ≡ true → Moved L m k s p o a
         → (0 < a) × Moved L m i s (set p i 1) (set o (a - 1) i) (a - 1)
     moved-push i e small t g = (
       some,

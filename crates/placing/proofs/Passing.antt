@@ -78,7 +78,7 @@ module _ (start writer : List ℕ) (w bound : ℕ) where
   pub scan-none : (n : ℕ) (s : State) → Ready n s → Passing s s 0
   scan-none n s r =
       record {
-        moved = moved-none (r .marks) (r .cells) (r .high) (omega (arith, r .room, upto-parts (isFree (s .placed)) (late start bound) (s .top)));
+        moved = moved-none (r .high) (omega (arith, r .room, upto-parts (isFree (s .placed)) (late start bound) (s .top)));
         after = λ j h k. absurd (omega arith);
         kinds = λ j m. absurd (omega (arith, m .from, m .under));
         asks = inl refl;
@@ -157,11 +157,11 @@ module _ (start writer : List ℕ) (w bound : ℕ) where
       taken : and (isFree (s .placed)) (late start bound) i ≡ true
       taken = rw (open-here, lt-ltb bound (getD start i 0) l)
 
-      pub scan-room : i < 1024 → 0 < t .at
+      pub scan-room : i < length (s .placed) → 0 < t .at
       scan-room small = moved-push i e small taken (g .moved) .0
 
       -- any other read is placed
-      pub scan-push : i < 1024 → clash i (getD writer i 0) w asked ≡ false
+      pub scan-push : i < length (s .placed) → clash i (getD writer i 0) w asked ≡ false
           → Passing s (record { placed = set (t .placed) i 1; order = set (t .order) (t .at - 1) i; at = t .at - 1; top = i }) (ask (getD writer i 0) w asked)
       scan-push small h =
           record {

@@ -34,7 +34,6 @@ ready-whole {n} {s} r =
       size = r .size;
       within = omega arith;
       marks = r .marks;
-      cells = r .cells;
       high = r .high;
       room = omega (arith, r .room, ap length (upto-stop (isFree (s .placed)) (s .top) n (r .within) (r .above)));
       above = λ j a b. absurd (omega arith);
@@ -92,9 +91,8 @@ module _ (C : Cols) (p : Sound C) (w : ℕ) (s : State) (h : Holds C s) (k : Who
         record {
           size = h .ready .size;
           within = omega (arith, g .within, h .ready .within);
-          marks = g .marks;
-          cells = g .cells;
-          high = g .high;
+          marks = omega (arith, g .marks, h .ready .marks);
+          high = omega (arith, g .cells, g .high);
           room =
               omega (
                 arith,
@@ -103,7 +101,6 @@ module _ (C : Cols) (p : Sound C) (w : ℕ) (s : State) (h : Holds C s) (k : Who
                 simp (length-append, length-drop) at (ap length (g .order)),
                 h .ready .room,
                 h .ready .high,
-                h .ready .cells,
                 g .cells,
                 g .high,
               );
@@ -158,9 +155,8 @@ module _ (C : Cols) (p : Sound C) (w : ℕ) (s : State) (h : Holds C s) (k : Who
           record {
             size = h .ready .size;
             within = omega (arith, scan-ready .within, o .top);
-            marks = o .marks;
-            cells = o .cells;
-            high = omega (arith, o .high, g .high);
+            marks = omega (arith, o .marks, scan-ready .marks);
+            high = omega (arith, o .cells, o .high, scan-ready .high);
             room =
                 omega (
                   arith,
@@ -278,6 +274,8 @@ module _ (C : Cols) (p : Sound C) (w : ℕ) (s : State) (h : Holds C s) (k : Who
       goes refl
       (record {
         holds = end-holds C p w s h k (q .state) (q .asked) g r o;
+        marks = o .marks ∙ g .marks;
+        cells = o .cells ∙ g .cells;
         less = omega (arith, o .high, lower);
         shrinks = λ j l e. cond-both _ _ (cond-both _ _ (sym (end-free C p w s h k (q .state) (q .asked) g r o j l) ∙ e) .0) .0;
         keeps =
@@ -295,7 +293,7 @@ module _ (C : Cols) (p : Sound C) (w : ℕ) (s : State) (h : Holds C s) (k : Who
       })
     where
       lower : q .state .at ≤ s .at
-      lower = omega (arith, simp (length-append, length-drop) at (ap length (g .order)), h .ready .cells, h .ready .high, g .cells, g .high)
+      lower = omega (arith, simp (length-append, length-drop) at (ap length (g .order)), h .ready .high, g .cells, g .high)
 
       go : (v : ℕ) → q .asked ≡ v + 1 → Asking (C .start) (C .writer) w (ending C w) s 0 (q .asked) → Whose (C .writer) r v
       go v y (inl z) = absurd (omega arith)

@@ -5,7 +5,6 @@ use mathlib.Core.Path.{_≡_}
 use mathlib.Core.Bool.{Bool, not}
 use mathlib.Core.List.{List, _∷_, _++_}
 use lib.ListN.{length}
-use Rattle.history.specs.Table.{largestCount}
 use Rattle.positions.specs.Places.{upto, and}
 use Rattle.positions.specs.Columns.{mine, readOf}
 use Rattle.placing.specs.States.{isFree, laid}
@@ -17,8 +16,8 @@ Mine writer w s = and (isFree (s .placed)) (readOf writer w)
 
 -- THE CONTRACT of that placing: w, then those reads rising, then what was laid; and nothing of w is left
 pub record Owned (writer : List ℕ) (w : ℕ) (s r : State) : Type 0 where
-  pub marks : length (r .placed) ≡ largestCount
-  pub cells : length (r .order) ≡ largestCount
+  pub marks : length (r .placed) ≡ length (s .placed)
+  pub cells : length (r .order) ≡ length (s .order)
   pub high : r .at < s .at
   pub top : r .top ≡ s .top
   pub order : laid r ≡ w ∷ (upto (Mine writer w s) (length writer) ++ laid s)

@@ -8,7 +8,6 @@ use mathlib.Core.Logic.{_⊎_, _≢_}
 use mathlib.Core.List.{List, _++_}
 use lib.ListN.{length, getD}
 use lib.Dec.{ltb}
-use Rattle.history.specs.Table.{largestCount}
 use Rattle.positions.specs.Places.{upto, and}
 use Rattle.placing.specs.States.{isFree, laid}
 use Rattle.placing.specs.declared.State.{State}
@@ -52,9 +51,9 @@ module _ (start writer : List ℕ) (w bound : ℕ) where
   -- everything late is placed, and what it asks for is known
   pub record Passed (s r : State) (asked : ℕ) : Type 0 where
     pub within : r .top ≤ s .top
-    pub marks : length (r .placed) ≡ largestCount
-    pub cells : length (r .order) ≡ largestCount
-    pub high : r .at ≤ largestCount
+    pub marks : length (r .placed) ≡ length (s .placed)
+    pub cells : length (r .order) ≡ length (s .order)
+    pub high : r .at ≤ length (s .order)
     pub over : (j : ℕ) → r .top ≤ j → j < s .top → bound < getD start j 0
     pub order : laid r ≡ upto (Late s) (s .top) ++ laid s
     pub free : (j : ℕ) → j < length start → isFree (r .placed) j ≡ and (isFree (s .placed)) (λ i. not (late start bound i)) j

@@ -29,6 +29,11 @@ laid s = drop (s .at) (s .order)
 unfoldable pub begun : ℕ → State
 begun n = record { placed = replicate largestCount 0; order = replicate largestCount 0; at = largestCount; top = n }
 
+-- a state with a mark and a place in the order for each row that a table may have
+pub record Sized (s : State) : Type 0 where
+  pub marks : length (s .placed) ≡ largestCount
+  pub cells : length (s .order) ≡ largestCount
+
 -- the state of lent marks and a lent order, and what was tried with them
 abbrev pub stateOf : List ℕ → List ℕ → ℕ → ℕ → State
 stateOf placed order at top = record { placed = placed; order = order; at = at; top = top }
@@ -44,9 +49,8 @@ Shrinks n old placed = (j : ℕ) → j < n → isFree placed j ≡ true → isFr
 pub record Ready (n : ℕ) (s : State) : Type 0 where
   pub size : n ≤ largestCount
   pub within : s .top ≤ n
-  pub marks : length (s .placed) ≡ largestCount
-  pub cells : length (s .order) ≡ largestCount
-  pub high : s .at ≤ largestCount
+  pub marks : n ≤ length (s .placed)
+  pub high : s .at ≤ length (s .order)
   pub room : length (left s) ≤ s .at
   pub above : (j : ℕ) → s .top ≤ j → j < n → isFree (s .placed) j ≡ false
 

@@ -6,7 +6,7 @@ use mathlib.Core.Path.{_≡_}
 use mathlib.Core.Bool.{true, false}
 use mathlib.Core.Logic.{_≢_}
 use mathlib.Core.List.{List, _++_}
-use lib.ListN.{getD}
+use lib.ListN.{length, getD}
 use Rattle.methods.specs.Place.{rest, segment}
 use Rattle.positions.specs.Columns.{Cols, size, op, ops, Says}
 use Rattle.placing.specs.States.{isFree, left, laid, Holds, Whose}
@@ -26,6 +26,8 @@ pub record Told (C : Cols) (w : ℕ) (s : State) (asked : ℕ) : Type 0 where
 -- w is placed: what is left then, what was put in front, and what is asked for
 pub record Went (C : Cols) (w : ℕ) (s : State) (r : Tried) : Type 0 where
   pub holds : Holds C (r .state)
+  pub marks : length (r .state .placed) ≡ length (s .placed)
+  pub cells : length (r .state .order) ≡ length (s .order)
   pub less : r .state .at < s .at
   pub shrinks : (j : ℕ) → j < size C → isFree (r .state .placed) j ≡ true → isFree (s .placed) j ≡ true
   pub keeps : (v : ℕ) → v ≢ w → Whose (C .writer) s v → Whose (C .writer) (r .state) v

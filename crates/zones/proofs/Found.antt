@@ -68,11 +68,11 @@ module _ (C : Cols) (p : Sound C) (h : size C ≤ 1024) (late : List ℕ) (g : Z
         ),
       )
 
-  pub search-fresh : (s t : State) → s ≡ begun (length (C .writer)) → pass nowhere (zonesBy (C .finish) late L) ≡ true → Lays (C .writer) L s t → (allowance : ℕ) →
+  pub search-fresh : (s t : State) → s ≡ begun (length (C .writer)) → pass nowhere (zonesBy (C .finish) late L) ≡ true → Lays (C .writer) L s t → length (t .order) ≡ 1024 → (allowance : ℕ) →
       Searched C allowance (λ H. untried (zones H)) (record { order = t .order; from = t .at; to = 1024; trials = 0; kind = 1 })
   unfolding zones inOrder
-  search-fresh s t b e k allowance =
-      is-fresh refl (omega arith) (k .ready .high) (omega arith) (k .ready .cells)
+  search-fresh s t b e k z allowance =
+      is-fresh refl (omega arith) (omega (arith, k .ready .high)) (omega arith) z
       (λ H o.
       let d : isOne H ≡ true = sym (decided o late g) ∙ (rw q at e) in
       rw d
@@ -80,7 +80,7 @@ module _ (C : Cols) (p : Sound C) (h : size C ≤ 1024) (late : List ℕ) (g : Z
       (ap (flatMap (cluster H)) (sym (by-low o late g))
       ∙ ap (λ (l : List ℕ). flatMap (cluster H) (ops H l)) (sym q)
       ∙ clusters-at o p L (λ w m. by-low-in (C .finish) late (C .writer) (rw q at m))
-      ∙ ap (ops H) (sym (whole-order t (k .ready .cells) ∙ all-laid)))))
+      ∙ ap (ops H) (sym (whole-order t z ∙ all-laid)))))
     where
       all-laid : laid t ≡ flatMap (clusterAt (C .writer)) L
       all-laid = k .order ∙ rw (b, begun-laid (length (C .writer))) (append-nil _)

@@ -52,9 +52,8 @@ module _ (writer : List ℕ) (w : ℕ) (s : State) (h : Ready (length writer) s)
       record {
         size = h .size;
         within = omega (arith, o .top, h .within);
-        marks = o .marks;
-        cells = o .cells;
-        high = omega (arith, o .high, h .high);
+        marks = omega (arith, o .marks, h .marks);
+        high = omega (arith, o .cells, o .high, h .high);
         room =
             omega (
               arith,
@@ -63,7 +62,6 @@ module _ (writer : List ℕ) (w : ℕ) (s : State) (h : Ready (length writer) s)
               ap length stays,
               simp (length-append, length-drop) at (ap length (o .order)),
               o .cells,
-              h .cells,
               h .high,
               h .room,
               o .high,
@@ -75,6 +73,8 @@ module _ (writer : List ℕ) (w : ℕ) (s : State) (h : Ready (length writer) s)
 pub record Laying (writer list : List ℕ) (s : State) (i : ℕ) (t : State) : Type 0 where
   pub within : i ≤ length list
   pub ready : Ready (length writer) t
+  pub marks : length (t .placed) ≡ length (s .placed)
+  pub cells : length (t .order) ≡ length (s .order)
   pub whole : Whole writer list i t
   pub order : laid t ≡ flatMap (clusterAt writer) (drop i list) ++ laid s
 
@@ -83,7 +83,7 @@ module _ (writer list : List ℕ) (s : State) where
   unfolding flatMap
   lay-none h k =
       let l : length list ≤ length list = omega arith in
-      record { within = l; ready = h; whole = k; order = rw (drop-of-length-le list l) refl }
+      record { within = l; ready = h; marks = refl; cells = refl; whole = k; order = rw (drop-of-length-le list l) refl }
 
   pub lay-end : (i : ℕ) (t : State) → Laying writer list s i t → i ≡ 0 → Lays writer list s t
   lay-end i t g z = record { ready = g .ready; order = rw z at (g .order) }
@@ -104,6 +104,8 @@ module _ (writer list : List ℕ) (s : State) where
         record {
           within = omega (arith, g .within);
           ready = own-ready writer w t (g .ready) lay-whose r o;
+          marks = o .marks ∙ g .marks;
+          cells = o .cells ∙ g .cells;
           whole = record { inside = λ k l. g .whole .inside k (omega arith); write = λ k l. g .whole .write k (omega arith); free = free };
           order =
               let e : drop (i - 1) list ≡ w ∷ drop i list = drops in

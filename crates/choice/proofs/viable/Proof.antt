@@ -2,6 +2,7 @@ use borrow.Author.Needs.{needs}
 use mathlib.Core.Path.{sym, _∙_}
 use Prim.Native.Nat.{_-_}
 use native.Mathlib.Omega.{arith}
+use lib.ListN.{length}
 use borrow.Author.Tests.{not-true, not-false}
 use Rattle.positions.specs.Columns.{cols}
 use Rattle.placing.specs.States.{stateOf}
@@ -10,7 +11,7 @@ use Rattle.choice.proofs.viable.Statement.{statement}
 use Rattle.choice.proofs.viable.Tie as tie
 
 abbrev Inv-loop : tie.InvT-loop
-Inv-loop start finish writer last prev turn placed₀ order₀ top n a₀ k₀ i₀ placed order a k i = Placing (cols start finish writer last prev) turn (stateOf placed₀ order₀ 1024 top) i (stateOf placed order a k)
+Inv-loop start finish writer last prev turn placed₀ order₀ top n a₀ k₀ i₀ placed order a k i = Placing (cols start finish writer last prev) turn (stateOf placed₀ order₀ (length order₀) top) i (stateOf placed order a k)
 
 abbrev μ-loop : tie.MeasureT-loop
 μ-loop start finish writer last prev turn placed₀ order₀ top n a₀ k₀ i₀ placed order a k i = n - i
@@ -42,11 +43,11 @@ step-requires c κs =
 
 -- src/lib.rt:74:13
 same-length : tie.Need-same-length Inv-loop μ-loop
-same-length c = c .before .before .before .before .before .step .kept .1 .1 .1 .1 .1 .0 ∙ c .before .before .before .before .before .before .before .before .before .before .loop .inv .holds .ready .marks ∙ sym (c .before .before .before .before .before .before .before .before .before .before .before .before .before .before .before .before .before .before .before .pre .1 .0 .ready .marks)
+same-length c = c .before .before .before .before .before .step .kept .1 .1 .1 .1 .1 .0 ∙ c .before .before .before .before .before .before .before .before .before .before .loop .inv .marks
 
 -- src/lib.rt:74:13
 same-length-2 : tie.Need-same-length-2 Inv-loop μ-loop
-same-length-2 c = c .before .before .before .before .before .step .kept .1 .1 .1 .1 .1 .1 .0 ∙ c .before .before .before .before .before .before .before .before .before .before .loop .inv .holds .ready .cells ∙ sym (c .before .before .before .before .before .before .before .before .before .before .before .before .before .before .before .before .before .before .before .pre .1 .0 .ready .cells)
+same-length-2 c = c .before .before .before .before .before .step .kept .1 .1 .1 .1 .1 .1 .0 ∙ c .before .before .before .before .before .before .before .before .before .before .loop .inv .cells
 
 -- src/lib.rt:74:13
 returns : tie.Need-returns Inv-loop μ-loop
@@ -68,11 +69,11 @@ ended-requires c κs = search needs
 
 -- src/lib.rt:79:13
 same-length-3 : tie.Need-same-length-3 Inv-loop μ-loop
-same-length-3 c = c .before .before .before .before .before .before .before .before .step .kept .1 .1 .1 .1 .1 .0 ∙ c .before .before .before .before .before .before .before .before .before .before .before .before .before .loop .inv .holds .ready .marks ∙ sym (c .before .before .before .before .before .before .before .before .before .before .before .before .before .before .before .before .before .before .before .before .before .before .pre .1 .0 .ready .marks)
+same-length-3 c = c .before .before .before .before .before .before .before .before .step .kept .1 .1 .1 .1 .1 .0 ∙ c .before .before .before .before .before .before .before .before .before .before .before .before .before .loop .inv .marks
 
 -- src/lib.rt:79:13
 same-length-4 : tie.Need-same-length-4 Inv-loop μ-loop
-same-length-4 c = c .before .before .before .before .before .before .before .before .step .kept .1 .1 .1 .1 .1 .1 .0 ∙ c .before .before .before .before .before .before .before .before .before .before .before .before .before .loop .inv .holds .ready .cells ∙ sym (c .before .before .before .before .before .before .before .before .before .before .before .before .before .before .before .before .before .before .before .before .before .before .pre .1 .0 .ready .cells)
+same-length-4 c = c .before .before .before .before .before .before .before .before .step .kept .1 .1 .1 .1 .1 .1 .0 ∙ c .before .before .before .before .before .before .before .before .before .before .before .before .before .loop .inv .cells
 
 -- src/lib.rt:79:13
 returns-2 : tie.Need-returns-2 Inv-loop μ-loop
@@ -100,11 +101,11 @@ ended-requires-2 c κs = search needs
 
 -- src/lib.rt:48:1
 same-length-5 : tie.Need-same-length-5 Inv-loop μ-loop
-same-length-5 c = c .before .before .loop .inv .holds .ready .marks ∙ sym (c .before .before .before .before .before .before .before .before .before .before .before .pre .1 .0 .ready .marks)
+same-length-5 c = c .before .before .loop .inv .marks
 
 -- src/lib.rt:48:1
 same-length-6 : tie.Need-same-length-6 Inv-loop μ-loop
-same-length-6 c = c .before .before .loop .inv .holds .ready .cells ∙ sym (c .before .before .before .before .before .before .before .before .before .before .before .pre .1 .0 .ready .cells)
+same-length-6 c = c .before .before .loop .inv .cells
 
 -- src/lib.rt:48:1
 returns-3 : tie.Need-returns-3 Inv-loop μ-loop

@@ -1,4 +1,4 @@
-use mathlib.Core.Path.{_∙_}
+use native.Mathlib.Omega.{arith}
 use Rattle.chunking.proofs.Alone.{alone-ready, alone-whose, alone-laid, alone-shut}
 use borrow.Author.Needs.{needs}
 use Rattle.chunking.proofs.cluster.Statement.{statement}
@@ -14,7 +14,7 @@ own-requires c κs =
     let q = c .before .before .before .before .before .before .before .before .before .before .before .pre in
     let a = c .before .before .before .before .before .before .before .before .before .before .before .args in
     let d = c .before .before .before .before .dye in
-    (q .0, (alone-ready (a .writer .now) (a .w) (a .placed .now) (d .last .1 .1 .1 .1 .1 .0) (a .order .now) (q .1 .1 .0 .0) (q .1 .0 .0) (q .1 .0 .1) (q .1 .1 .0 .2) (d .kept .1 .1 .1 .1 .1 .0 ∙ q .1 .1 .0 .1) (q .1 .1 .1) (d .ensures), alone-whose (a .writer .now) (a .w) (a .placed .now) (d .last .1 .1 .1 .1 .1 .0) (a .order .now) (q .1 .1 .0 .0) (q .1 .0 .0) (q .1 .0 .1) (q .1 .1 .0 .2) (d .kept .1 .1 .1 .1 .1 .0 ∙ q .1 .1 .0 .1) (q .1 .1 .1) (d .ensures)))
+    (q .0, (alone-ready (a .writer .now) (a .w) (a .placed .now) (d .last .1 .1 .1 .1 .1 .0) (a .order .now) (q .1 .1 .0 .0) (q .1 .0 .0) (q .1 .0 .1) (q .1 .1 .0 .2) (omega (arith, d .kept .1 .1 .1 .1 .1 .0, q .1 .1 .0 .1)) (q .1 .1 .1) (d .ensures), alone-whose (a .writer .now) (a .w) (a .placed .now) (d .last .1 .1 .1 .1 .1 .0) (a .order .now) (q .1 .1 .0 .0) (q .1 .0 .0) (q .1 .0 .1) (q .1 .1 .0 .2) (omega (arith, d .kept .1 .1 .1 .1 .1 .0, q .1 .1 .0 .1)) (q .1 .1 .1) (d .ensures)))
 
 -- src/lib.rt:230:1
 same-length : tie.Need-same-length
@@ -31,7 +31,7 @@ returns c =
     let a = c .before .before .before .before .before .before .before .before .before .before .before .before .before .before .before .before .args in
     let d = c .before .before .before .before .before .before .before .before .before .dye in
     let o = c .before .before .before .before .own in
-    (alone-laid (a .writer .now) (a .w) (a .placed .now) (d .last .1 .1 .1 .1 .1 .0) (a .order .now) (q .1 .1 .0 .0) (q .1 .0 .0) (q .1 .0 .1) (q .1 .1 .0 .2) (d .kept .1 .1 .1 .1 .1 .0 ∙ q .1 .1 .0 .1) (q .1 .1 .1) (d .ensures) _ _ _ (o .ensures _), alone-shut (a .writer .now) (a .w) (a .placed .now) (d .last .1 .1 .1 .1 .1 .0) (a .order .now) (q .1 .1 .0 .0) (q .1 .0 .0) (q .1 .0 .1) (q .1 .1 .0 .2) (d .kept .1 .1 .1 .1 .1 .0 ∙ q .1 .1 .0 .1) (q .1 .1 .1) (d .ensures) _ _ _ (o .ensures _))
+    (alone-laid (a .writer .now) (a .w) (a .placed .now) (d .last .1 .1 .1 .1 .1 .0) (a .order .now) (q .1 .1 .0 .0) (q .1 .0 .0) (q .1 .0 .1) (q .1 .1 .0 .2) (omega (arith, d .kept .1 .1 .1 .1 .1 .0, q .1 .1 .0 .1)) (q .1 .1 .1) (d .ensures) _ _ _ (o .ensures _), alone-shut (a .writer .now) (a .w) (a .placed .now) (d .last .1 .1 .1 .1 .1 .0) (a .order .now) (q .1 .1 .0 .0) (q .1 .0 .0) (q .1 .0 .1) (q .1 .1 .0 .2) (omega (arith, d .kept .1 .1 .1 .1 .1 .0, q .1 .1 .0 .1)) (q .1 .1 .1) (d .ensures) _ _ _ (o .ensures _))
 
 pub cluster-spec : {M : Type 1} → statement M
 cluster-spec = tie.close (tie.spec dye-requires own-requires same-length same-length-2 returns)

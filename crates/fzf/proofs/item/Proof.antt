@@ -110,7 +110,7 @@ cluster-requires c κs =
     let e = rw (x, y) at (sym (c .before .before .before .before .chunk-first .ensures) ∙ c .before .before .before .if1 .left) in
     let k = side-write _ (q .0) _ false (getD-in _ 0 _ (cluster-there _ (q .0) _ (q .1 .1 .0) _ _ d (rw (x, y) at (w .some)) e)) in
     let l = q .1 .1 .1 .1 .1 .1 .1 in
-    (q .0 .links, (rw y (rw (q .0 .shape .long) (k .0), k .1), ((rw (q .0 .shape .long) (q .1 .0), l .marks, l .cells), q .1 .1 .1 .1 .1 .1 .0 .shut)))
+    (q .0 .links, (rw y (rw (q .0 .shape .long) (k .0), k .1), ((rw (q .0 .shape .long) (q .1 .0), rw (q .0 .shape .long) (l .marks), rw (q .0 .shape .long) (l .cells)), q .1 .1 .1 .1 .1 .1 .0 .shut)))
 
 -- src/lib.rt:209:19
 add-t35 : tie.Need-add-t35
@@ -143,7 +143,7 @@ returns-2 c =
     let t = cluster-there _ (q .0) _ (q .1 .1 .0) _ _ d (rw (x, y) at (w .some)) e in
     let l = q .1 .1 .1 .1 .1 .1 .1 in
     let o = c .before .before .before .before .cluster in
-    (rw (x, y) (next-cluster _ (q .0) _ (q .1 .1 .0) _ _ d (rw x at (w .forth)) t e _ _ (o .kept .1 .1 .1 .1 .1 .0 ∙ l .cells) (rw y at (o .ensures .0)) _), record { shut = o .ensures .1; behind = q .1 .1 .1 .1 .1 .1 .0 .behind })
+    (rw (x, y) (next-cluster _ (q .0) _ (q .1 .1 .0) _ _ d (rw x at (w .forth)) t e _ _ (rw y at (o .ensures .0)) _), record { shut = o .ensures .1; behind = q .1 .1 .1 .1 .1 .1 .0 .behind })
 
 pub item-spec : {M : Type 1} → statement M
 item-spec =

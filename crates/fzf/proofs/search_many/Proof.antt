@@ -1,8 +1,8 @@
--- Each array has a place for each operation, and no mark is set.
+-- Each array has a place for each operation, no mark is set, and everything is shut.
 use mathlib.Core.Path.{sym}
 use native.Mathlib.Omega.{arith}
 use lib.Seq.{length-take-le}
-use Rattle.fzf.proofs.Joining.{unmarked}
+use Rattle.fzf.proofs.Joining.{unmarked, shut-all}
 use borrow.Author.Needs.{needs}
 use Rattle.fzf.proofs.search_many.Statement.{statement}
 use Rattle.fzf.proofs.search_many.Tie as tie
@@ -28,8 +28,14 @@ slice-aggregate-search-with-5 c = search needs
 slice-aggregate-search-with-6 : tie.Need-slice-aggregate-search-with-6
 slice-aggregate-search-with-6 c = search needs
 
+slice-aggregate-search-with-7 : tie.Need-slice-aggregate-search-with-7
+slice-aggregate-search-with-7 c = search needs
+
+slice-aggregate-search-with-8 : tie.Need-slice-aggregate-search-with-8
+slice-aggregate-search-with-8 c = search needs
+
 search-with-requires : tie.Need-search-with-requires
-search-with-requires c κs = let q = c .before .before .before .before .before .before .before .before .before .before .before .pre in let h = q .1 .0 in (q .0, (omega arith, (q .1 .1, (length-take-le _ _ (omega arith), (h, (h, (h, (h, (h, unmarked 1024)))))))))
+search-with-requires c κs = let q = c .before .before .before .before .before .before .before .before .before .before .before .before .before .pre in let h = q .1 .0 in (q .0, (omega arith, (q .1 .1, (length-take-le _ _ (omega arith), (h, (h, (h, (h, (h, (unmarked 1024, (h, (shut-all 1024 _ (omega (arith, q .0 .shape .long)), h))))))))))))
 
 returns : tie.Need-returns
 returns c = search needs
@@ -45,5 +51,7 @@ search-many-spec =
     slice-aggregate-search-with-4
     slice-aggregate-search-with-5
     slice-aggregate-search-with-6
+    slice-aggregate-search-with-7
+    slice-aggregate-search-with-8
     search-with-requires
     returns)

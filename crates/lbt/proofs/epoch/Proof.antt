@@ -1,4 +1,4 @@
-use mathlib.Core.Path.{sym}
+use mathlib.Core.Path.{sym, _∙_}
 use native.Mathlib.Omega.{arith}
 use Rattle.positions.specs.Columns.{cols}
 use Rattle.placing.specs.States.{stateOf}
@@ -16,15 +16,15 @@ abbrev μ-loop : tie.MeasureT-loop
 loop-holds : tie.Need-loop-holds Inv-loop μ-loop
 loop-holds c =
     let q = c .before .before .before .before .before .before .before .pre in
-    run-none _ (q .0) _ _ (q .1 .0) (q .1 .1)
+    run-none _ (q .0) _ _ (q .1 .0) (q .1 .1 .0)
 
 -- src/lib.rt:53:13
 slice-aggregate-step : tie.Need-slice-aggregate-step Inv-loop μ-loop
-slice-aggregate-step c = sym (c .before .loop .inv .holds .ready .marks)
+slice-aggregate-step c = sym (c .before .loop .inv .marks ∙ c .before .before .before .before .before .before .before .before .before .pre .1 .1 .1 .marks)
 
 -- src/lib.rt:54:13
 slice-aggregate-step-2 : tie.Need-slice-aggregate-step-2 Inv-loop μ-loop
-slice-aggregate-step-2 c = sym (c .before .before .loop .inv .holds .ready .cells)
+slice-aggregate-step-2 c = sym (c .before .before .loop .inv .cells ∙ c .before .before .before .before .before .before .before .before .before .before .pre .1 .1 .1 .cells)
 
 -- src/lib.rt:47:13
 step-requires : tie.Need-step-requires Inv-loop μ-loop

@@ -27,7 +27,7 @@ shared-slice-read-newest c = omega arith
 candidates-holds : tie.Need-candidates-holds Inv-candidates μ-candidates
 candidates-holds c =
     let q = c .before .before .before .before .before .before .before .pre in
-    turn-none _ (q .0) _ (q .1 .0) _ (q .1 .1 .1 .0) _ _ _ (q .1 .1 .0) _ (q .1 .1 .1 .1 .1 .0) (q .1 .1 .1 .1 .1 .1)
+    turn-none _ (q .0) _ (q .1 .0) _ (q .1 .1 .1 .0) _ _ _ (q .1 .1 .0) _ (q .1 .1 .1 .1 .1 .0) (q .1 .1 .1 .1 .1 .1 .0)
 
 ended-requires : tie.Need-ended-requires Inv-candidates μ-candidates
 ended-requires c κs = search needs
@@ -68,7 +68,7 @@ add-count c = omega arith
 epoch-requires : tie.Need-epoch-requires Inv-candidates μ-candidates
 epoch-requires c κs =
     let q = c .before .before .before .before .before .before .before .before .before .before .before .before .before .before .before .pre in
-    (q .0, (q .1 .0, turn-whose _ (q .0) _ (q .1 .0) _ (q .1 .1 .1 .0) _ _ _ (q .1 .1 .0) _ _ (c .before .before .before .before .before .before .before .candidates .inv) (omega arith) (omega arith)))
+    (q .0, (q .1 .0, (turn-whose _ (q .0) _ (q .1 .0) _ (q .1 .1 .1 .0) _ _ _ (q .1 .1 .0) _ _ (c .before .before .before .before .before .before .before .candidates .inv) (omega arith) (omega arith), q .1 .1 .1 .1 .1 .1 .1)))
 
 ended-requires-4 : tie.Need-ended-requires-4 Inv-candidates μ-candidates
 ended-requires-4 c κs = search needs

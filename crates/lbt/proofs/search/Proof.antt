@@ -47,7 +47,7 @@ round-requires : tie.Need-round-requires Inv-loop μ-loop
 round-requires c κs =
     let q = c .before .before .before .before .before .before .before .before .before .before .before .before .before .before .before .pre in
     let i = c .before .before .before .before .before .before .before .loop .inv in
-    (q .0, (i .holds, (q .1 .0, (walk-lowest _ (q .0) (q .1 .1) _ (q .1 .0) _ _ _ _ _ (c .before .before .before .before .before .before .before .loop .inv) _ (c .before .before .before .before .newest .ensures) (c .before .before .before .if1 .left), (walk-low _ (q .0) (q .1 .1) _ (q .1 .0) _ _ _ _ _ (c .before .before .before .before .before .before .before .loop .inv) _ (c .before .before .before .before .newest .ensures), (c .first .ensures, i .small))))))
+    (q .0, (i .holds, (q .1 .0, (walk-lowest _ (q .0) (q .1 .1) _ (q .1 .0) _ _ _ _ _ (c .before .before .before .before .before .before .before .loop .inv) _ (c .before .before .before .before .newest .ensures) (c .before .before .before .if1 .left), (walk-low _ (q .0) (q .1 .1) _ (q .1 .0) _ _ _ _ _ (c .before .before .before .before .before .before .before .loop .inv) _ (c .before .before .before .before .newest .ensures), (c .first .ensures, (i .small, i .sized)))))))
 
 answer-requires-2 : tie.Need-answer-requires-2 Inv-loop μ-loop
 answer-requires-2 c κs = search needs

@@ -1,6 +1,6 @@
 use native.Mathlib.Omega.{arith}
 use Prim.Native.Nat.{_-_}
-use mathlib.Core.Path.{sym, _∙_}
+use mathlib.Core.Path.{_∙_}
 use lib.ListN.{length, length-set}
 use Rattle.placing.specs.States.{stateOf}
 use Rattle.placing.proofs.Linking.{Linking, link-none, link-skip, link-push, link-room, link-falls, own-room, own-end, own-any}
@@ -60,7 +60,10 @@ mul-order c = omega arith
 
 -- src/lib.rt:141:13
 slice-write-order : tie.Need-slice-write-order Inv-loop μ-loop
-slice-write-order c = omega arith
+slice-write-order c =
+    let q = c .before .before .before .before .before .before .pre in
+    let l = c .before .before .before .before .loop in
+    omega (arith, l .inv .moved .high, l .inv .moved .cells, link-room _ _ _ _ (q .0) _ (q .1 .0) (q .1 .1) _ _ (omega arith) (l .inv) (omega arith))
 
 -- src/lib.rt:135:5
 loop-less : tie.Need-loop-less Inv-loop μ-loop
@@ -106,15 +109,18 @@ mul-order-2 c = omega arith
 
 -- src/lib.rt:146:5
 slice-write-order-2 : tie.Need-slice-write-order-2 Inv-loop μ-loop
-slice-write-order-2 c = omega arith
+slice-write-order-2 c =
+    let q = c .before .before .before .pre in
+    let l = c .before .loop in
+    omega (arith, l .inv .moved .high, l .inv .moved .cells, own-room _ _ _ _ (q .0) _ (q .1 .0) (q .1 .1) _ _ (omega arith) (l .inv))
 
 -- src/lib.rt:119:1
 same-length : tie.Need-same-length Inv-loop μ-loop
-same-length c = length-set (c .before .loop .placed) (c .before .before .before .args .w) 1 ∙ c .before .loop .inv .moved .marks ∙ sym (c .before .before .before .pre .1 .0 .marks)
+same-length c = length-set (c .before .loop .placed) (c .before .before .before .args .w) 1 ∙ c .before .loop .inv .moved .marks
 
 -- src/lib.rt:119:1
 same-length-2 : tie.Need-same-length-2 Inv-loop μ-loop
-same-length-2 c = length-set (c .before .loop .order) (c .before .loop .a - 1) (c .before .before .before .args .w) ∙ c .before .loop .inv .moved .cells ∙ sym (c .before .before .before .pre .1 .0 .cells)
+same-length-2 c = length-set (c .before .loop .order) (c .before .loop .a - 1) (c .before .before .before .args .w) ∙ c .before .loop .inv .moved .cells
 
 -- src/lib.rt:119:1
 returns : tie.Need-returns Inv-loop μ-loop

@@ -93,7 +93,9 @@ mul-order c = omega arith
 
 -- src/lib.rt:112:13
 slice-write-order : tie.Need-slice-write-order Inv-loop μ-loop
-slice-write-order c = omega arith
+slice-write-order c =
+    let l = c .before .before .before .before .before .before .before .before .before .loop in
+    omega (arith, l .inv .moved .high, l .inv .moved .cells, scan-room _ _ _ _ _ _ _ (l .k - 1) (omega arith) (l .inv) (omega arith) (omega arith) (omega arith))
 
 -- src/lib.rt:98:5
 loop-less : tie.Need-loop-less Inv-loop μ-loop

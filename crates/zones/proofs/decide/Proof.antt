@@ -1,4 +1,6 @@
+use Prim.Native.Nat.{ℕ}
 use mathlib.Core.Path.{refl, sym, _∙_}
+use lib.ListN.{length-replicate}
 use Rattle.placing.specs.States.{begun}
 use Rattle.zones.proofs.ByLow.{by-low-inside}
 use Rattle.zones.proofs.Found.{lay-asks, search-stale, search-fresh}
@@ -26,7 +28,7 @@ lay-requires c κs = let q = c .before .before .before .before .before .before .
 -- src/lib.rt:215:9
 returns : tie.Need-returns
 unfolding begun
-returns c = let q = c .before .before .before .before .before .before .before .before .before .before .before .before .before .before .pre in search-fresh _ (q .0) (q .1 .0) _ (q .1 .1 .0) _ (q .1 .1 .1) _ _ refl (sym (c .before .before .before .before .before .before .one .ensures) ∙ c .before .before .before .before .before .if1 .taken) (c .before .before .lay .ensures)
+returns c = let q = c .before .before .before .before .before .before .before .before .before .before .before .before .before .before .pre in search-fresh _ (q .0) (q .1 .0) _ (q .1 .1 .0) _ (q .1 .1 .1) _ _ refl (sym (c .before .before .before .before .before .before .one .ensures) ∙ c .before .before .before .before .before .if1 .taken) (c .before .before .lay .ensures) (c .before .before .lay .kept .1 .1 .1 .1 .1 .0 ∙ length-replicate {A = ℕ} 1024 0)
 
 -- src/lib.rt:188:1
 returns-2 : tie.Need-returns-2

@@ -1,4 +1,3 @@
-use mathlib.Core.Path.{sym, _∙_}
 use native.Mathlib.Omega.{arith}
 use lib.ListN.{length}
 use Rattle.placing.specs.States.{stateOf}
@@ -42,11 +41,11 @@ loop-again c = lay-on _ _ _ _ _ (c .before .before .before .before .before .befo
 
 -- src/lib.rt:161:1
 same-length : tie.Need-same-length Inv-loop μ-loop
-same-length c = c .before .loop .inv .ready .marks ∙ sym (c .before .before .before .before .before .before .before .before .pre .1 .0 .marks)
+same-length c = c .before .loop .inv .marks
 
 -- src/lib.rt:161:1
 same-length-2 : tie.Need-same-length-2 Inv-loop μ-loop
-same-length-2 c = c .before .loop .inv .ready .cells ∙ sym (c .before .before .before .before .before .before .before .before .pre .1 .0 .cells)
+same-length-2 c = c .before .loop .inv .cells
 
 -- src/lib.rt:161:1
 returns : tie.Need-returns Inv-loop μ-loop
