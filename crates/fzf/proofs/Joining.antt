@@ -6,7 +6,7 @@ use mathlib.Core.Bool.{Bool, true, false, cond}
 use mathlib.Core.Logic.{_⊎_, inl, inr}
 use mathlib.Core.List.{List, [], _∷_, _++_, flatMap, append-nil, append-assoc, List·Memᴰ as In, List·Memᴰ·head as here, List·Memᴰ·append-cases}
 use native.Mathlib.Omega.{arith}
-use lib.ListN.{length, take, drop, replicate, length-append, length-map, length-drop, length-replicate, getD-replicate, drop-of-length-le}
+use lib.ListN.{length, take, drop, replicate, length-append, length-map, length-drop, getD-replicate, drop-of-length-le}
 use lib.Seq.{take-all, length-take-le}
 use lib.Dec.{leb}
 use borrow.Author.Tests.{leb-true, leb-false, le-leb}
@@ -21,7 +21,6 @@ use Rattle.methods.specs.Fzf.{Item, runs, dangles, made, items, putBefore, join
 use Rattle.methods.specs.Mark.{untried}
 use Rattle.positions.specs.Columns.{Cols, size, op, ops, Of, Says}
 use Rattle.positions.proofs.Columns.{size-is}
-use Rattle.placing.specs.States.{isFree}
 use Rattle.placing.specs.Searched.{Searched, is-stale, is-fresh}
 use Rattle.zones.specs.Zones.{Zoned}
 use Rattle.freeing.specs.Freed.{Shut}
@@ -46,8 +45,8 @@ pub record Done (H : List Op) (F B placed : List ℕ) (a j : ℕ) : Type 0 where
 pub record Joining (C : Cols) (F B out : List ℕ) (m a j : ℕ) : Type 0 where
   pub forth : a ≤ length F
   pub back : j ≤ length B
-  pub long : length out ≡ 1024
-  pub few : m ≤ 1024
+  pub long : size C ≤ length out
+  pub few : m ≤ size C
   pub whole : Says C (λ H. Done H F B (take m out) a j)
 
 -- what the test for the end says
@@ -81,10 +80,6 @@ part-whole part at = take-all (length part - at) (drop at part) (rw (length-drop
 pub poised-none : (C : Cols) (late F B placed : List ℕ) → Shut (length (C .writer)) placed → Poised C late F B 0 0 placed
 poised-none C late F B placed h = record { shut = h; behind = λ l. record { within = omega arith; lows = λ k b. absurd (omega arith) } }
 
--- no place is marked at the outset
-pub unmarked : (n i : ℕ) → i < length (replicate {A = ℕ} n 0) → isFree (replicate n 0) i ≡ true
-unmarked n i l = rw (getD-replicate {A = ℕ} n i 0 0 (omega (arith, l, length-replicate {A = ℕ} n 0)))
-
 -- everything is shut
 pub shut-all : (n m : ℕ) → m ≤ n → Shut m (replicate n 1)
 shut-all n m h j l = rw (getD-replicate {A = ℕ} n j 1 0 (omega arith))
@@ -101,7 +96,7 @@ module _ (C : Cols) (late : List ℕ) (g : Zoned C late) where
   abbrev B : List ℕ
   B = backs C late
 
-  pub join-none : (out : List ℕ) → length out ≡ 1024 → Joining C F B out 0 0 0
+  pub join-none : (out : List ℕ) → size C ≤ length out → Joining C F B out 0 0 0
   unfolding flatMap
   join-none out e =
       record {
@@ -153,7 +148,7 @@ module _ (C : Cols) (late : List ℕ) (g : Zoned C late) where
         Searched C allowance (λ H. untried (fzf H)) (record { order = out; from = 0; to = m; trials = 0; kind = 1 })
     unfolding fzf join putBefore merge runs keep
     join-end h l allowance =
-        is-fresh refl (omega arith) (omega arith) (k .few) (k .long)
+        is-fresh refl (omega arith) (omega arith) (omega (arith, k .few, k .long))
         (λ H o.
         let d = k .whole H o in
         let e : remaining F B a j H ≡ [] = empty H in
@@ -202,19 +197,19 @@ module _ (C : Cols) (late : List ℕ) (g : Zoned C late) where
           each y (inr (here e)) = rw e (x .holds .whole H o ∙ ap order (sym (made-order H (x .item H) _ (x .holds .whole H o))))
 
       -- what is written is no more than the history has
-      pub join-room : Known C → size C ≤ 1024 → m + length (drop (r .at) part) ≤ 1024
-      join-room (H, o) n =
+      pub join-room : Known C → m + length (drop (r .at) part) ≤ size C
+      join-room (H, o) =
           let (done, e, f, q) = more H o in
           let s = done-short (o .prepared) done _ e f in
           omega (arith, s, ap length q, length-map (take m out ++ drop (r .at) part) (op H), length-append (take m out) (drop (r .at) part), length-take-le m out (omega (arith, k .long, k .few)), size-is o)
 
-      pub join-on : Known C → size C ≤ 1024 → (out' : List ℕ) (m' : ℕ) → length out' ≡ length out → m' ≡ m + length (drop (r .at) part) → take m' out' ≡ take m out ++ drop (r .at) part →
+      pub join-on : Known C → (out' : List ℕ) (m' : ℕ) → length out' ≡ length out → m' ≡ m + length (drop (r .at) part) → take m' out' ≡ take m out ++ drop (r .at) part →
           Joining C F B out' m' (r .forward) (r .backward)
-      join-on w n out' m' l e t =
+      join-on w out' m' l e t =
           record {
             forth = x .forth;
             back = x .back;
-            long = l ∙ k .long;
-            few = omega (arith, join-room w n);
+            long = omega (arith, l, k .long);
+            few = omega (arith, join-room w);
             whole = λ H o. let (done, a, f, q) = more H o in record { done = done; all = a; made-all = f; orders = q ∙ ap (ops H) (sym t) };
           }

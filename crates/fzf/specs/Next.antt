@@ -7,7 +7,6 @@ use mathlib.Core.List.{List}
 use lib.ListN.{length, getD}
 use lib.Dec.{leb}
 use Rattle.methods.specs.Zones.{low}
-use Rattle.placing.specs.declared.Search.{Search}
 use Rattle.zones.specs.Zones.{zoneBy}
 use Rattle.chunking.specs.Chunks.{danglesBy}
 
@@ -27,7 +26,3 @@ pub record Waiting (finish late F B : List ℕ) (a j : ℕ) : Type 0 where
   pub back : j ≤ length B
   pub some : length F ≤ a → j < length B
   pub hangs : j < length B → danglesBy finish late F (getD B j 0) ≡ true
-
--- a search that ends with the first m of an order
-abbrev pub endedAt : List ℕ → ℕ → ℕ → Search
-endedAt order m kind = record { order = order; from = 0; to = m; trials = 0; kind = kind }

@@ -12,12 +12,12 @@ ghost use Rattle.methods.specs.Fzf.{fzf};
 ghost use Rattle.methods.specs.Mark.{untried};
 ghost use Rattle.positions.specs.Columns.{cols, Sound};
 ghost use Rattle.placing.specs.States.{isFree};
-ghost use Rattle.placing.specs.Searched.{Searched};
+ghost use Rattle.placing.specs.Searched.{findingOf, Searched};
 ghost use Rattle.zones.specs.Zones.{zoneBy, Zoned, Inside};
 ghost use Rattle.freeing.specs.Freed.{Shut};
 ghost use Rattle.chunking.specs.Inner.{Behind, Hangs};
 ghost use Rattle.fzf.specs.Items.{Known, forths, backs, Cut, Lent, Poised, Chunked, Nexts};
-ghost use Rattle.fzf.specs.Next.{chunkFirst, overAt, Waiting, endedAt};
+ghost use Rattle.fzf.specs.Next.{chunkFirst, overAt, Waiting};
 
 // What a chunk gives: where its order begins at the end of the part, or that it has none; and where the backward writes behind it begin.
 struct Ordered {
@@ -213,19 +213,6 @@ fn item(
     }
 }
 
-// A search that ends here: the first m of the order, or none.
-fn ended(order: [u64; Row::LARGEST_COUNT], m: usize, kind: u64) -> Search
-    ensures { λ r. ⌜ r ≡ endedAt order m kind ⌝ }
-{
-    Search {
-        order,
-        from: 0,
-        to: m,
-        trials: 0,
-        kind,
-    }
-}
-
 // Joins the items by low end; the backward writes inside a run are marked, and the lent slices have a place for each operation.
 fn join(
     start: &[u64],
@@ -241,6 +228,7 @@ fn join(
     turn: &mut [u64],
     placed: &mut [u8],
     part: &mut [u64],
+    order: &mut [u64],
 ) -> Search
     requires { ⌜ Sound (cols (now start) (now finish) (now writer) (now last) (now prev)) ⌝ }
     requires { ⌜ length (now start) ≤ largestCount ⌝ }
@@ -252,9 +240,9 @@ fn join(
     requires { ⌜ Hangs (now finish) (now late) (now forwards) (now backwards) (now marks) ⌝ }
     requires { ⌜ Lent (length (now start)) (now list) (now turn) (now placed) (now part) ⌝ }
     requires { ⌜ Shut (length (now writer)) (now placed) ⌝ }
-    ensures { λ r. ⌜ ((allowance : ℕ) → Searched (cols (now (start .entry)) (now (finish .entry)) (now (writer .entry)) (now (last .entry)) (now (prev .entry))) allowance (λ H. untried (fzf H)) r) ⌝ }
+    requires { ⌜ length (now start) ≤ length (now order) ⌝ }
+    ensures { λ r. ⌜ ((allowance : ℕ) → Searched (cols (now (start .entry)) (now (finish .entry)) (now (writer .entry)) (now (last .entry)) (now (prev .entry))) allowance (λ H. untried (fzf H)) (findingOf (now (order .exit)) r)) ⌝ }
 {
-    let mut order = [0u64; Row::LARGEST_COUNT];
     let mut m: usize = 0;
     let mut a: usize = 0;
     let mut j: usize = 0;
@@ -262,7 +250,12 @@ fn join(
     loop {
         j = chunking::skip(backwards, marks, j);
         if over(forwards.len(), backwards.len(), a, j) {
-            return ended(order, m, Search::FRESH);
+            return Search {
+                from: 0,
+                to: m,
+                trials: 0,
+                kind: Search::FRESH,
+            };
         }
         let next = item(
             start,
@@ -282,10 +275,15 @@ fn join(
             part,
         );
         if next.failed {
-            return ended(order, 0, Search::STALE);
+            return Search {
+                from: 0,
+                to: 0,
+                trials: 0,
+                kind: Search::STALE,
+            };
         }
         let at = next.at;
-        m = append(&part[at..], &mut order, m);
+        m = append(&part[at..], order, m);
         a = next.forward;
         j = next.backward;
         i = next.inner;
@@ -307,6 +305,7 @@ fn sides(
     turn: &mut [u64],
     placed: &mut [u8],
     part: &mut [u64],
+    order: &mut [u64],
 ) -> Search
     requires { ⌜ Sound (cols (now start) (now finish) (now writer) (now last) (now prev)) ⌝ }
     requires { ⌜ length (now start) ≤ largestCount ⌝ }
@@ -318,7 +317,8 @@ fn sides(
     requires { ⌜ ((i : ℕ) → i < length (now marks) → isFree (now marks) i ≡ true) ⌝ }
     requires { ⌜ Lent (length (now start)) (now list) (now turn) (now placed) (now part) ⌝ }
     requires { ⌜ Shut (length (now writer)) (now placed) ⌝ }
-    ensures { λ r. ⌜ ((allowance : ℕ) → Searched (cols (now (start .entry)) (now (finish .entry)) (now (writer .entry)) (now (last .entry)) (now (prev .entry))) allowance (λ H. untried (fzf H)) r) ⌝ }
+    requires { ⌜ length (now start) ≤ length (now order) ⌝ }
+    ensures { λ r. ⌜ ((allowance : ℕ) → Searched (cols (now (start .entry)) (now (finish .entry)) (now (writer .entry)) (now (last .entry)) (now (prev .entry))) allowance (λ H. untried (fzf H)) (findingOf (now (order .exit)) r)) ⌝ }
 {
     chunking::mark_inner(finish, late, forwards, backwards, list, marks);
     join(
@@ -335,6 +335,7 @@ fn sides(
         turn,
         placed,
         part,
+        order,
     )
 }
 
@@ -353,6 +354,7 @@ fn search_with(
     marks: &mut [u8],
     placed: &mut [u8],
     part: &mut [u64],
+    order: &mut [u64],
 ) -> Search
     requires { ⌜ Sound (cols (now start) (now finish) (now writer) (now last) (now prev)) ⌝ }
     requires { ⌜ length (now start) ≤ largestCount ⌝ }
@@ -367,7 +369,8 @@ fn search_with(
     requires { ⌜ length (now start) ≤ length (now placed) ⌝ }
     requires { ⌜ Shut (length (now writer)) (now placed) ⌝ }
     requires { ⌜ length (now start) ≤ length (now part) ⌝ }
-    ensures { λ r. ⌜ ((allowance : ℕ) → Searched (cols (now (start .entry)) (now (finish .entry)) (now (writer .entry)) (now (last .entry)) (now (prev .entry))) allowance (λ H. untried (fzf H)) r) ⌝ }
+    requires { ⌜ length (now start) ≤ length (now order) ⌝ }
+    ensures { λ r. ⌜ ((allowance : ℕ) → Searched (cols (now (start .entry)) (now (finish .entry)) (now (writer .entry)) (now (last .entry)) (now (prev .entry))) allowance (λ H. untried (fzf H)) (findingOf (now (order .exit)) r)) ⌝ }
 {
     zones::lates(start, writer, last, late);
     let m = zones::by_low(finish, late, writer, list);
@@ -388,15 +391,24 @@ fn search_with(
         list,
         placed,
         part,
+        order,
     )
 }
 
 // FZF for few operations.
-fn search_few(start: &[u64], finish: &[u64], writer: &[u64], last: &[u64], prev: &[u64]) -> Search
+fn search_few(
+    start: &[u64],
+    finish: &[u64],
+    writer: &[u64],
+    last: &[u64],
+    prev: &[u64],
+    order: &mut [u64],
+) -> Search
     requires { ⌜ Sound (cols (now start) (now finish) (now writer) (now last) (now prev)) ⌝ }
     requires { ⌜ length (now start) ≤ 64 ⌝ }
     requires { ⌜ Known (cols (now start) (now finish) (now writer) (now last) (now prev)) ⌝ }
-    ensures { λ r. ⌜ ((allowance : ℕ) → Searched (cols (now (start .entry)) (now (finish .entry)) (now (writer .entry)) (now (last .entry)) (now (prev .entry))) allowance (λ H. untried (fzf H)) r) ⌝ }
+    requires { ⌜ length (now start) ≤ length (now order) ⌝ }
+    ensures { λ r. ⌜ ((allowance : ℕ) → Searched (cols (now (start .entry)) (now (finish .entry)) (now (writer .entry)) (now (last .entry)) (now (prev .entry))) allowance (λ H. untried (fzf H)) (findingOf (now (order .exit)) r)) ⌝ }
 {
     let n = start.len();
     let mut late = [0u64; zones::FEW];
@@ -421,15 +433,24 @@ fn search_few(start: &[u64], finish: &[u64], writer: &[u64], last: &[u64], prev:
         &mut marks,
         &mut placed,
         &mut part,
+        order,
     )
 }
 
 // The same for as many operations as a table has.
-fn search_many(start: &[u64], finish: &[u64], writer: &[u64], last: &[u64], prev: &[u64]) -> Search
+fn search_many(
+    start: &[u64],
+    finish: &[u64],
+    writer: &[u64],
+    last: &[u64],
+    prev: &[u64],
+    order: &mut [u64],
+) -> Search
     requires { ⌜ Sound (cols (now start) (now finish) (now writer) (now last) (now prev)) ⌝ }
     requires { ⌜ length (now start) ≤ largestCount ⌝ }
     requires { ⌜ Known (cols (now start) (now finish) (now writer) (now last) (now prev)) ⌝ }
-    ensures { λ r. ⌜ ((allowance : ℕ) → Searched (cols (now (start .entry)) (now (finish .entry)) (now (writer .entry)) (now (last .entry)) (now (prev .entry))) allowance (λ H. untried (fzf H)) r) ⌝ }
+    requires { ⌜ length (now start) ≤ length (now order) ⌝ }
+    ensures { λ r. ⌜ ((allowance : ℕ) → Searched (cols (now (start .entry)) (now (finish .entry)) (now (writer .entry)) (now (last .entry)) (now (prev .entry))) allowance (λ H. untried (fzf H)) (findingOf (now (order .exit)) r)) ⌝ }
 {
     let n = start.len();
     let mut late = [0u64; Row::LARGEST_COUNT];
@@ -454,18 +475,27 @@ fn search_many(start: &[u64], finish: &[u64], writer: &[u64], last: &[u64], prev
         &mut marks,
         &mut placed,
         &mut part,
+        order,
     )
 }
 
 // FZF: whether the history is 2-atomic, with an order.
-pub fn search(start: &[u64], finish: &[u64], writer: &[u64], last: &[u64], prev: &[u64]) -> Search
+pub fn search(
+    start: &[u64],
+    finish: &[u64],
+    writer: &[u64],
+    last: &[u64],
+    prev: &[u64],
+    order: &mut [u64],
+) -> Search
     requires { ⌜ Sound (cols (now start) (now finish) (now writer) (now last) (now prev)) ⌝ }
     requires { ⌜ length (now start) ≤ largestCount ⌝ }
     requires { ⌜ Known (cols (now start) (now finish) (now writer) (now last) (now prev)) ⌝ }
-    ensures { λ r. ⌜ ((allowance : ℕ) → Searched (cols (now (start .entry)) (now (finish .entry)) (now (writer .entry)) (now (last .entry)) (now (prev .entry))) allowance (λ H. untried (fzf H)) r) ⌝ }
+    requires { ⌜ length (now start) ≤ length (now order) ⌝ }
+    ensures { λ r. ⌜ ((allowance : ℕ) → Searched (cols (now (start .entry)) (now (finish .entry)) (now (writer .entry)) (now (last .entry)) (now (prev .entry))) allowance (λ H. untried (fzf H)) (findingOf (now (order .exit)) r)) ⌝ }
 {
     if start.len() <= zones::FEW {
-        return search_few(start, finish, writer, last, prev);
+        return search_few(start, finish, writer, last, prev, order);
     }
-    search_many(start, finish, writer, last, prev)
+    search_many(start, finish, writer, last, prev, order)
 }

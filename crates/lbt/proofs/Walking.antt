@@ -136,7 +136,7 @@ module _ (C : Cols) (p : Sound C) (n : size C ≤ 1024) (F : List ℕ) (q : F �
 
     -- no write is left, so nothing is
     pub walk-ends : next ≡ 0 → Searched C allowance (λ H. walked (lbt H)) (answered (ended s count 1))
-    walk-ends z = is-fresh refl (g .small) (omega (arith, g .holds .ready .high, g .sized .cells)) (omega arith) (g .sized .cells) (λ H f. says H f)
+    walk-ends z = is-fresh refl (g .small) (omega (arith, g .holds .ready .high, g .sized .cells)) (omega (arith, g .sized .cells)) (λ H f. says H f)
       where
         nothing : (j : ℕ) → j < s .top → isFree (s .placed) j ≡ false
         nothing j l = go (isFree (s .placed) j) refl

@@ -12,9 +12,10 @@ use Rattle.positions.specs.Places.{and, latest}
 use Rattle.positions.specs.Columns.{Cols, size, isOwn, ops, Says}
 use Rattle.placing.specs.States.{isFree, left, Whose}
 use Rattle.placing.specs.declared.State.{State}
-use Rattle.placing.specs.declared.Search.{Search}
+use Rattle.placing.specs.Searched.{Finding}
 use Rattle.lbt.specs.Epochs.{Wins}
 use Rattle.lbt.specs.declared.Turn.{Turn}
+use Rattle.lbt.specs.declared.Walked.{Walked}
 
 -- a write that is not placed
 abbrev pub openWrite : List ℕ → List ℕ → ℕ → Bool
@@ -43,8 +44,12 @@ tried (won t l o) = t
 abbrev pub ended : State → ℕ → ℕ → Turn
 ended s trials kind = record { state = s; trials = trials; kind = kind }
 
-abbrev pub answered : Turn → Search
+abbrev pub answered : Turn → Finding
 answered r = record { order = r .state .order; from = r .state .at; to = largestCount; trials = r .trials; kind = r .kind }
+
+-- the answer as a finding in the walk's own places
+abbrev pub findingIn : Walked → Finding
+findingIn r = record { order = r .order; from = r .from; to = r .to; trials = r .trials; kind = r .kind }
 
 -- THE CONTRACT of a round; s is the state and base the trials before it
 pub data Turned (C : Cols) (s : State) (base allowance : ℕ) (r : Turn) : Type 0 where

@@ -14,13 +14,22 @@ ghost use Rattle.positions.specs.Columns.{cols, byFinish, Sound};
 ghost use Rattle.placing.specs.States.{Sized, Holds, Whose};
 ghost use Rattle.placing.specs.Searched.{Searched};
 ghost use Rattle.lbt.specs.Epochs.{Ran};
-ghost use Rattle.lbt.specs.Rounds.{openWrite, Lowest, Skipped, Turned, ended, answered};
+ghost use Rattle.lbt.specs.Rounds.{openWrite, Lowest, Skipped, Turned, ended, answered, findingIn};
 
 // What a round gives: kind stale where it is lost, fresh where it is won, spent where the allowance is used up.
 struct Turn {
     state: State,
     trials: u64,
     kind: u64,
+}
+
+// What the walk gives: the order of a fresh history stands at order[from..to].
+pub struct Walked {
+    pub order: [u64; Row::LARGEST_COUNT],
+    pub from: usize,
+    pub to: usize,
+    pub trials: u64,
+    pub kind: u64,
 }
 
 // An epoch from w: steps until no write is asked for, or one fails.
@@ -184,12 +193,12 @@ fn round(
 }
 
 // The answer of the walk that ends with this round.
-fn answer(turn: Turn) -> Search
-    ensures { λ r. ⌜ r ≡ answered turn ⌝ }
+fn answer(turn: Turn) -> Walked
+    ensures { λ r. ⌜ findingIn r ≡ answered turn ⌝ }
 {
     let state = turn.state;
     let order = state.order;
-    Search {
+    Walked {
         order: order,
         from: state.at,
         to: Row::LARGEST_COUNT,
@@ -207,11 +216,11 @@ pub fn search(
     prev: &[u64],
     falling: &[u64],
     allowance: u64,
-) -> Search
+) -> Walked
     requires { ⌜ Sound (cols (now start) (now finish) (now writer) (now last) (now prev)) ⌝ }
     requires { ⌜ now falling ≡ byFinish (cols (now start) (now finish) (now writer) (now last) (now prev)) ⌝ }
     requires { ⌜ length (now start) ≤ largestCount ⌝ }
-    ensures { λ r. ⌜ Searched (cols (now (start .entry)) (now (finish .entry)) (now (writer .entry)) (now (last .entry)) (now (prev .entry))) allowance (λ H. walked (lbt H)) r ⌝ }
+    ensures { λ r. ⌜ Searched (cols (now (start .entry)) (now (finish .entry)) (now (writer .entry)) (now (last .entry)) (now (prev .entry))) allowance (λ H. walked (lbt H)) (findingIn r) ⌝ }
 {
     let n = start.len();
     let mut state = placing::begin(n);

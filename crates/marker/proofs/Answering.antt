@@ -15,14 +15,13 @@ use Rattle.methods.specs.Lbt.{lbt}
 use Rattle.methods.specs.Fzf.{fzf}
 use Rattle.methods.specs.Mark.{Result, untried, walked, method, rowNumbers, written, answered, marked, judged}
 use Rattle.positions.specs.Columns.{Cols, nothing, ops, Of}
-use Rattle.placing.specs.declared.Search.{Search}
-use Rattle.placing.specs.Searched.{found, Searched, is-stale, is-fresh, is-spent}
+use Rattle.placing.specs.Searched.{Finding, found, Searched, is-stale, is-fresh, is-spent}
 use Rattle.marker.specs.Called.{outcome, Fits}
 
 -- what is found by one method is found by another that gives the same
-pub searched-by : {C : Cols} {allowance : ℕ} {r : Search} (m n : List Op → Result) → ((H : List Op) → m H ≡ n H) → Searched C allowance m r → Searched C allowance n r
+pub searched-by : {C : Cols} {allowance : ℕ} {r : Finding} (m n : List Op → Result) → ((H : List Op) → m H ≡ n H) → Searched C allowance m r → Searched C allowance n r
 searched-by m n e (is-stale q l s) = is-stale q l (λ H o. sym (e H) ∙ s H o)
-searched-by m n e (is-fresh q l a b c s) = is-fresh q l a b c (λ H o. sym (e H) ∙ s H o)
+searched-by m n e (is-fresh q l a b s) = is-fresh q l a b (λ H o. sym (e H) ∙ s H o)
 searched-by m n e (is-spent q s) = is-spent q (λ H o. omega (arith, s H o, ap (λ x. x .trials) (e H)))
 
 -- The method of each question.
@@ -38,9 +37,9 @@ pub method-three : (question : ℕ) → question ≢ 1 → question ≢ 2 → (H
 unfolding method
 method-three question n m H = rw (ne-eqb question 1 n, ne-eqb question 2 m) refl
 
--- the positions that are found are as many as their array says
-pub found-long : (r : Search) → r .from ≤ r .to → r .to ≤ 1024 → length (r .order) ≡ 1024 → length (found r) ≡ r .to - r .from
-found-long r a b c = length-take-le (r .to - r .from) (drop (r .from) (r .order)) (omega (arith, length-drop (r .from) (r .order)))
+-- the positions that are found are as many as their places say
+pub found-long : (r : Finding) → r .from ≤ r .to → r .to ≤ length (r .order) → length (found r) ≡ r .to - r .from
+found-long r a b = length-take-le (r .to - r .from) (drop (r .from) (r .order)) (omega (arith, length-drop (r .from) (r .order)))
 
 -- the row of an operation, also where there is none
 row-at : (H : List Op) (j : ℕ) → getD (rowNumbers H) j 0 ≡ getD H j nothing .row
@@ -57,42 +56,42 @@ order-rows H (j ∷ l) =
 
 module _ {C : Cols} {allowance : ℕ} {m : List Op → Result} {H : List Op} (o : Of C H) (list : List ℕ) (rows : ℕ) where
   -- no order
-  pub judged-stale : (r : Search) → Searched C allowance m r → r .kind ≡ 0 → outcome (answered stale rows (r .trials)) list ≡ judged rows allowance list (m H)
+  pub judged-stale : (r : Finding) → Searched C allowance m r → r .kind ≡ 0 → outcome (answered stale rows (r .trials)) list ≡ judged rows allowance list (m H)
   unfolding judged marked
   judged-stale r (is-stale q l s) e = rw (s H o, le-ltb allowance (r .trials) l) refl
-  judged-stale r (is-fresh q l a b c s) e = absurd (omega (arith, q, e))
+  judged-stale r (is-fresh q l a b s) e = absurd (omega (arith, q, e))
   judged-stale r (is-spent q s) e = absurd (omega (arith, q, e))
 
   -- more trials than are allowed
-  pub judged-spent : (r : Search) → Searched C allowance m r → r .kind ≢ 0 → r .kind ≢ 1 → outcome (answered spent 0 allowance) list ≡ judged rows allowance list (m H)
+  pub judged-spent : (r : Finding) → Searched C allowance m r → r .kind ≢ 0 → r .kind ≢ 1 → outcome (answered spent 0 allowance) list ≡ judged rows allowance list (m H)
   unfolding judged
   judged-spent r (is-stale q l s) e f = absurd (e q)
-  judged-spent r (is-fresh q l a b c s) e f = absurd (f q)
+  judged-spent r (is-fresh q l a b s) e f = absurd (f q)
   judged-spent r (is-spent q s) e f = rw (lt-ltb allowance (m H .trials) (s H o)) refl
 
   -- an order, whose rows are at the front of the list
-  pub judged-fresh : (r : Search) → Searched C allowance m r → r .kind ≡ 1 → (numbers xs : List ℕ) → numbers ≡ rowNumbers H → xs ≡ map (λ j. getD numbers j 0) (found r) →
+  pub judged-fresh : (r : Finding) → Searched C allowance m r → r .kind ≡ 1 → (numbers xs : List ℕ) → numbers ≡ rowNumbers H → xs ≡ map (λ j. getD numbers j 0) (found r) →
       outcome (answered fresh rows (r .trials)) (xs ++ drop (r .to - r .from) list) ≡ judged rows allowance list (m H)
   unfolding judged marked
   judged-fresh r (is-stale q l s) e numbers xs n d = absurd (omega (arith, q, e))
   judged-fresh r (is-spent q s) e numbers xs n d = absurd (omega (arith, q, e))
-  judged-fresh r (is-fresh q l a b c s) e numbers xs n d = rw (s H o, le-ltb allowance (r .trials) l) (ap (λ (k : List ℕ). outcome (answered fresh rows (r .trials)) k) whole)
+  judged-fresh r (is-fresh q l a b s) e numbers xs n d = rw (s H o, le-ltb allowance (r .trials) l) (ap (λ (k : List ℕ). outcome (answered fresh rows (r .trials)) k) whole)
     where
       are : xs ≡ rowNumbers (ops H (found r))
       are = d ∙ ap (λ (k : List ℕ). map (λ j. getD k j 0) (found r)) n ∙ order-rows H (found r)
 
       long : r .to - r .from ≡ length (rowNumbers (ops H (found r)))
-      long = sym (length-map (ops H (found r)) (λ x. x .row) ∙ length-map (found r) _ ∙ found-long r a b c)
+      long = sym (length-map (ops H (found r)) (λ x. x .row) ∙ length-map (found r) _ ∙ found-long r a b)
 
       whole : xs ++ drop (r .to - r .from) list ≡ written (rowNumbers (ops H (found r))) list
       whole = ap (λ (k : List ℕ). k ++ drop (r .to - r .from) list) are ∙ ap (λ (k : ℕ). rowNumbers (ops H (found r)) ++ drop k list) long
 
 -- What is lent for the rows: the order's part of its array, and as many places of the list.
-module _ (r : Search) (list : List ℕ) (f : Fits r list) (e : r .kind ≡ 1) where
+module _ (r : Finding) (list : List ℕ) (f : Fits r list) (e : r .kind ≡ 1) where
   -- the list has the places
   pub places-long : r .to - r .from ≡ length (take (r .to - r .from) list)
   places-long = sym (length-take-le (r .to - r .from) list (f .room e))
 
   -- they are as many as the positions
   pub same-places : length (take (r .to - r .from) list) ≡ length (found r)
-  same-places = sym places-long ∙ sym (found-long r (f .rising e) (f .inside e) (f .cells e))
+  same-places = sym places-long ∙ sym (found-long r (f .rising e) (f .inside e))

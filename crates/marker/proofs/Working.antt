@@ -19,8 +19,7 @@ use Rattle.meaning.specs.Marked.{Passes}
 use Rattle.meaning.proofs.Methods.{Settles, settles-order, method-settles}
 use Rattle.positions.specs.Columns.{Cols, size, op, ops, Sound}
 use Rattle.positions.proofs.Columns.{size-is, of-sound}
-use Rattle.placing.specs.declared.Search.{Search}
-use Rattle.placing.specs.Searched.{found, Searched, is-stale, is-fresh, is-spent}
+use Rattle.placing.specs.Searched.{Finding, found, Searched, is-stale, is-fresh, is-spent}
 use Rattle.columns.specs.Rows.{Listed}
 use Rattle.columns.specs.Made.{Room, Made}
 use Rattle.columns.proofs.Made.{prepared-rows}
@@ -44,12 +43,16 @@ module _ {t : List ℕ} {register : ℕ} {rows : List ℕ} (g : Listed t registe
   unfolding byStart
   rows-long = ap length (g .listed) ∙ length-map (byStart h) (λ x. x .row) ∙ sort-length startsFirst h
 
+  -- the columns have a place for each row
+  pub made-size : {C : Cols} → Made t rows C → size C ≡ length rows
+  made-size m = let o = m .columns register g in omega (arith, size-is o, ap length (prepared-rows g), length-map (prepared h) (λ x. x .row))
+
   -- what the search takes
   pub search-takes : {C : Cols} → Made t rows C → length rows ≤ 1024 → Sound C × ((size C ≤ 1024) × Known C)
   search-takes {C} m few =
       let o = m .columns register g in (
         of-sound o (m .chains),
-        (omega (arith, size-is o, ap length (prepared-rows g), length-map (prepared h) (λ x. x .row)), (prepared h, o)),
+        (omega (arith, made-size m), (prepared h, o)),
       )
 
   module _ (question : ℕ) (asked : Asked question) where
@@ -70,36 +73,34 @@ module _ {t : List ℕ} {register : ℕ} {rows : List ℕ} (g : Listed t registe
             )
 
     -- and so it fits the list
-    pub found-fits : {C : Cols} {allowance : ℕ} → Made t rows C → (r : Search) → Searched C allowance (method question) r → (list : List ℕ) → length rows ≤ length list → Fits r list
+    pub found-fits : {C : Cols} {allowance : ℕ} → Made t rows C → (r : Finding) → Searched C allowance (method question) r → (list : List ℕ) → length rows ≤ length list → Fits r list
     found-fits m r (is-stale q l s) list room =
         record {
           rising = λ e. absurd (omega (arith, q, e));
           inside = λ e. absurd (omega (arith, q, e));
-          cells = λ e. absurd (omega (arith, q, e));
           room = λ e. absurd (omega (arith, q, e));
         }
     found-fits m r (is-spent q s) list room =
         record {
           rising = λ e. absurd (omega (arith, q, e));
           inside = λ e. absurd (omega (arith, q, e));
-          cells = λ e. absurd (omega (arith, q, e));
           room = λ e. absurd (omega (arith, q, e));
         }
-    found-fits m r (is-fresh q l a b c s) list room =
-        record { rising = λ e. a; inside = λ e. b; cells = λ e. c; room = λ e. few }
+    found-fits m r (is-fresh q l a b s) list room =
+        record { rising = λ e. a; inside = λ e. b; room = λ e. few }
       where
         few : r .to - r .from ≤ length list
         few =
             omega (
               arith,
               rows-long,
-              found-long r a b c,
+              found-long r a b,
               length-map (found r) (op (prepared h)),
               order-few (ops (prepared h) (found r)) (ap (λ x. x .decision) (s (prepared h) (m .columns register g))),
             )
 
   -- THE OUTCOME, from what was found
-  pub work-ends : {C : Cols} {r : Search} (question allowance : ℕ) (list : List ℕ) (out : Outcome) → Made t rows C → Searched C allowance (method question) r →
+  pub work-ends : {C : Cols} {r : Finding} (question allowance : ℕ) (list : List ℕ) (out : Outcome) → Made t rows C → Searched C allowance (method question) r →
       Replied rows allowance r list out → out ≡ judged (length h) allowance list (method question (prepared h))
   work-ends {C} question allowance list out m k f =
       f C (prepared h) (method question) (m .columns register g) (prepared-rows g) k

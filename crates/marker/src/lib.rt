@@ -1,8 +1,10 @@
 // The marking call: tests 1 to 10, and then the method of the question over the register's prepared history.
 use history::Answer;
 use history::Row;
+use lbt::Walked;
 use placing::Search;
 ghost use mathlib.Core.Path.{_≡_};
+ghost use mathlib.Core.Logic.{_≢_};
 ghost use mathlib.Core.List.{List};
 ghost use Prim.Native.Nat.{ℕ, _≤_};
 ghost use lib.ListN.{length};
@@ -14,7 +16,8 @@ ghost use Rattle.methods.specs.Mark.{noQuestion, walked, method, judged, markTe
 ghost use Rattle.meaning.specs.Marked.{Passes};
 ghost use Rattle.meaning.specs.Demand.{Demand};
 ghost use Rattle.positions.specs.Columns.{cols, Sound};
-ghost use Rattle.placing.specs.Searched.{Searched};
+ghost use Rattle.placing.specs.Searched.{findingOf, Searched};
+ghost use Rattle.lbt.specs.Rounds.{findingIn};
 ghost use Rattle.columns.specs.Rows.{Listed};
 ghost use Rattle.columns.specs.Made.{Room};
 ghost use Rattle.fzf.specs.Items.{Known};
@@ -65,11 +68,11 @@ fn walk_with(
     prev: &[u64],
     allowance: u64,
     falling: &mut [u64],
-) -> Search
+) -> Walked
     requires { ⌜ Sound (cols (now start) (now finish) (now writer) (now last) (now prev)) ⌝ }
     requires { ⌜ length (now start) ≤ largestCount ⌝ }
     requires { ⌜ length (now writer) ≤ length (now falling) ⌝ }
-    ensures { λ r. ⌜ Searched (cols (now (start .entry)) (now (finish .entry)) (now (writer .entry)) (now (last .entry)) (now (prev .entry))) allowance (λ H. walked (lbt H)) r ⌝ }
+    ensures { λ r. ⌜ Searched (cols (now (start .entry)) (now (finish .entry)) (now (writer .entry)) (now (last .entry)) (now (prev .entry))) allowance (λ H. walked (lbt H)) (findingIn r) ⌝ }
 {
     let m = columns::falls(finish, writer, falling);
     lbt::search(start, finish, writer, last, prev, &falling[..m], allowance)
@@ -83,10 +86,10 @@ fn walk(
     last: &[u64],
     prev: &[u64],
     allowance: u64,
-) -> Search
+) -> Walked
     requires { ⌜ Sound (cols (now start) (now finish) (now writer) (now last) (now prev)) ⌝ }
     requires { ⌜ length (now start) ≤ largestCount ⌝ }
-    ensures { λ r. ⌜ Searched (cols (now (start .entry)) (now (finish .entry)) (now (writer .entry)) (now (last .entry)) (now (prev .entry))) allowance (λ H. walked (lbt H)) r ⌝ }
+    ensures { λ r. ⌜ Searched (cols (now (start .entry)) (now (finish .entry)) (now (writer .entry)) (now (last .entry)) (now (prev .entry))) allowance (λ H. walked (lbt H)) (findingIn r) ⌝ }
 {
     if writer.len() <= FEW {
         let mut few = [0u64; FEW];
@@ -96,7 +99,7 @@ fn walk(
     walk_with(start, finish, writer, last, prev, allowance, &mut falling)
 }
 
-// The search by the method of the question.
+// The search by zones, or by FZF, into a lent order.
 fn search(
     start: &[u64],
     finish: &[u64],
@@ -104,26 +107,25 @@ fn search(
     last: &[u64],
     prev: &[u64],
     question: u64,
-    allowance: u64,
+    order: &mut [u64],
 ) -> Search
     requires { ⌜ Sound (cols (now start) (now finish) (now writer) (now last) (now prev)) ⌝ }
     requires { ⌜ length (now start) ≤ largestCount ⌝ }
     requires { ⌜ Known (cols (now start) (now finish) (now writer) (now last) (now prev)) ⌝ }
-    ensures { λ r. ⌜ Searched (cols (now (start .entry)) (now (finish .entry)) (now (writer .entry)) (now (last .entry)) (now (prev .entry))) allowance (method question) r ⌝ }
+    requires { ⌜ question ≢ 2 ⌝ }
+    requires { ⌜ length (now start) ≤ length (now order) ⌝ }
+    ensures { λ r. ⌜ ((allowance : ℕ) → Searched (cols (now (start .entry)) (now (finish .entry)) (now (writer .entry)) (now (last .entry)) (now (prev .entry))) allowance (method question) (findingOf (now (order .exit)) r)) ⌝ }
 {
     if question == ZONES {
-        return zones::search(start, finish, writer, last, prev);
+        return zones::search(start, finish, writer, last, prev, order);
     }
-    if question == LBT {
-        return walk(start, finish, writer, last, prev, allowance);
-    }
-    fzf::search(start, finish, writer, last, prev)
+    fzf::search(start, finish, writer, last, prev, order)
 }
 
 // The answer to what was found, and the order's rows at the front of the list where it is fresh.
-fn answer(found: Search, rows: &[u64], allowance: u64, list: &mut [u64]) -> Answer
-    requires { ⌜ Fits found (now list) ⌝ }
-    ensures { λ r. ⌜ Replied (now (rows .entry)) allowance found (now (list .entry)) (outcome r (now (list .exit))) ⌝ }
+fn answer(found: Search, order: &[u64], rows: &[u64], allowance: u64, list: &mut [u64]) -> Answer
+    requires { ⌜ Fits (findingOf (now order) found) (now list) ⌝ }
+    ensures { λ r. ⌜ Replied (now (rows .entry)) allowance (findingOf (now (order .entry)) found) (now (list .entry)) (outcome r (now (list .exit))) ⌝ }
 {
     let kind = found.kind;
     let trials = found.trials;
@@ -144,7 +146,6 @@ fn answer(found: Search, rows: &[u64], allowance: u64, list: &mut [u64]) -> Answ
             trials: allowance,
         };
     }
-    let order = found.order;
     let from = found.from;
     let to = found.to;
     let m = to - from;
@@ -157,6 +158,21 @@ fn answer(found: Search, rows: &[u64], allowance: u64, list: &mut [u64]) -> Answ
     }
 }
 
+// The answer to what LBT found, in the walk's own order.
+fn answer_walk(found: Walked, rows: &[u64], allowance: u64, list: &mut [u64]) -> Answer
+    requires { ⌜ Fits (findingIn found) (now list) ⌝ }
+    ensures { λ r. ⌜ Replied (now (rows .entry)) allowance (findingIn found) (now (list .entry)) (outcome r (now (list .exit))) ⌝ }
+{
+    let end = Search {
+        from: found.from,
+        to: found.to,
+        trials: found.trials,
+        kind: found.kind,
+    };
+    let order = found.order;
+    answer(end, &order, rows, allowance, list)
+}
+
 // The mark of a screened register, from its rows by rising start and a place for each in the other slices.
 fn work(
     table: &[u64],
@@ -166,6 +182,7 @@ fn work(
     writer: &mut [u64],
     last: &mut [u64],
     prev: &mut [u64],
+    order: &mut [u64],
     question: u64,
     allowance: u64,
     list: &mut [u64],
@@ -175,11 +192,16 @@ fn work(
     requires { ⌜ length (now rows) ≤ largestCount ⌝ }
     requires { ⌜ length (now rows) ≤ length (now list) ⌝ }
     requires { ⌜ Asked question ⌝ }
+    requires { ⌜ length (now rows) ≤ length (now order) ⌝ }
     ensures { λ r. ⌜ ((register : ℕ) → Listed (now (table .entry)) register (now (rows .entry)) → outcome r (now (list .exit)) ≡ judged (length (history (now (table .entry)) register)) allowance (now (list .entry)) (method question (prepared (history (now (table .entry)) register)))) ⌝ }
 {
     columns::fill(table, rows, start, finish, writer, last, prev);
-    let found = search(start, finish, writer, last, prev, question, allowance);
-    answer(found, rows, allowance, list)
+    if question == LBT {
+        let walked = walk(start, finish, writer, last, prev, allowance);
+        return answer_walk(walked, rows, allowance, list);
+    }
+    let found = search(start, finish, writer, last, prev, question, order);
+    answer(found, order, rows, allowance, list)
 }
 
 // The mark of a screened register of few rows, from these by rising start.
@@ -196,6 +218,7 @@ fn mark_few(table: &[u64], rows: &[u64], question: u64, allowance: u64, list: &m
     let mut writer = [0u64; FEW];
     let mut last = [0u64; FEW];
     let mut prev = [0u64; FEW];
+    let mut order = [0u64; FEW];
     work(
         table,
         rows,
@@ -204,6 +227,7 @@ fn mark_few(table: &[u64], rows: &[u64], question: u64, allowance: u64, list: &m
         &mut writer[..n],
         &mut last[..n],
         &mut prev[..n],
+        &mut order,
         question,
         allowance,
         list,
@@ -224,6 +248,7 @@ fn mark_many(table: &[u64], rows: &[u64], question: u64, allowance: u64, list: &
     let mut writer = [0u64; Row::LARGEST_COUNT];
     let mut last = [0u64; Row::LARGEST_COUNT];
     let mut prev = [0u64; Row::LARGEST_COUNT];
+    let mut order = [0u64; Row::LARGEST_COUNT];
     work(
         table,
         rows,
@@ -232,6 +257,7 @@ fn mark_many(table: &[u64], rows: &[u64], question: u64, allowance: u64, list: &
         &mut writer[..n],
         &mut last[..n],
         &mut prev[..n],
+        &mut order,
         question,
         allowance,
         list,

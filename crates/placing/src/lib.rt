@@ -34,9 +34,8 @@ pub struct Tried {
     pub failed: bool,
 }
 
-// What a search gives; the order of a fresh history stands at order[from..to].
+// What a search gives beside the lent order; that of a fresh history stands at order[from..to].
 pub struct Search {
-    pub order: [u64; Row::LARGEST_COUNT],
     pub from: usize,
     pub to: usize,
     pub trials: u64,

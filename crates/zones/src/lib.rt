@@ -3,6 +3,7 @@ use history::Row;
 use methods::Zone;
 use placing::Search;
 ghost use mathlib.Core.Path.{_≡_};
+ghost use mathlib.Core.Bool.{true};
 ghost use Prim.Native.Nat.{ℕ, _≤_, _<_, max};
 ghost use lib.ListN.{length, getD, take};
 ghost use Rattle.history.specs.Table.{largestCount};
@@ -10,8 +11,8 @@ ghost use Rattle.methods.specs.Zones.{zones};
 ghost use Rattle.methods.specs.Mark.{untried};
 ghost use Rattle.positions.specs.Places.{Once};
 ghost use Rattle.positions.specs.Columns.{cols, Linked, Sound};
-ghost use Rattle.placing.specs.States.{stateOf, Ready};
-ghost use Rattle.placing.specs.Searched.{Searched};
+ghost use Rattle.placing.specs.States.{isFree, stateOf, Ready};
+ghost use Rattle.placing.specs.Searched.{findingOf, Searched};
 ghost use Rattle.zones.specs.Zones.{lastBy, Ends, Lates, zoneBy, Zoned, Lows, writesAt, byLow, Inside};
 ghost use Rattle.zones.specs.Lay.{Whole, Lays};
 ghost use Rattle.zones.specs.Pass.{meets, newer, pass, nowhere, zonesBy};
@@ -230,7 +231,7 @@ fn lay(
     a
 }
 
-// The zone method over the writes by low end.
+// The zone method over the writes by low end, with marks that are clean.
 fn decide(
     start: &[u64],
     finish: &[u64],
@@ -239,35 +240,29 @@ fn decide(
     prev: &[u64],
     late: &[u64],
     list: &[u64],
+    placed: &mut [u8],
+    order: &mut [u64],
 ) -> Search
     requires { ⌜ Sound (cols (now start) (now finish) (now writer) (now last) (now prev)) ⌝ }
     requires { ⌜ length (now start) ≤ largestCount ⌝ }
     requires { ⌜ Zoned (cols (now start) (now finish) (now writer) (now last) (now prev)) (now late) ⌝ }
     requires { ⌜ now list ≡ byLow (now finish) (now late) (now writer) ⌝ }
-    ensures { λ r. ⌜ ((allowance : ℕ) → Searched (cols (now (start .entry)) (now (finish .entry)) (now (writer .entry)) (now (last .entry)) (now (prev .entry))) allowance (λ H. untried (zones H)) r) ⌝ }
+    requires { ⌜ length (now start) ≤ length (now placed) ⌝ }
+    requires { ⌜ ((i : ℕ) → i < length (now placed) → isFree (now placed) i ≡ true) ⌝ }
+    requires { ⌜ length (now start) ≤ length (now order) ⌝ }
+    ensures { λ r. ⌜ ((allowance : ℕ) → Searched (cols (now (start .entry)) (now (finish .entry)) (now (writer .entry)) (now (last .entry)) (now (prev .entry))) allowance (λ H. untried (zones H)) (findingOf (now (order .exit)) r)) ⌝ }
 {
-    let mut order = [0u64; Row::LARGEST_COUNT];
     if one(finish, late, list) {
-        let mut placed = [0u8; Row::LARGEST_COUNT];
-        let from = lay(
-            writer,
-            last,
-            prev,
-            list,
-            &mut placed,
-            &mut order,
-            Row::LARGEST_COUNT,
-        );
+        let to = order.len();
+        let from = lay(writer, last, prev, list, placed, order, to);
         return Search {
-            order,
             from,
-            to: Row::LARGEST_COUNT,
+            to,
             trials: 0,
             kind: Search::FRESH,
         };
     }
     Search {
-        order,
         from: 0,
         to: 0,
         trials: 0,
@@ -275,7 +270,7 @@ fn decide(
     }
 }
 
-// The zone method, where `late` has a place for each operation, and the list at least as many.
+// The zone method, where `late` has a place for each operation, the other slices at least as many, and the marks are clean.
 fn search_with(
     start: &[u64],
     finish: &[u64],
@@ -284,50 +279,111 @@ fn search_with(
     prev: &[u64],
     late: &mut [u64],
     list: &mut [u64],
+    placed: &mut [u8],
+    order: &mut [u64],
 ) -> Search
     requires { ⌜ Sound (cols (now start) (now finish) (now writer) (now last) (now prev)) ⌝ }
     requires { ⌜ length (now start) ≤ largestCount ⌝ }
     requires { ⌜ length (now late) ≡ length (now start) ⌝ }
     requires { ⌜ length (now start) ≤ length (now list) ⌝ }
-    ensures { λ r. ⌜ ((allowance : ℕ) → Searched (cols (now (start .entry)) (now (finish .entry)) (now (writer .entry)) (now (last .entry)) (now (prev .entry))) allowance (λ H. untried (zones H)) r) ⌝ }
+    requires { ⌜ length (now start) ≤ length (now placed) ⌝ }
+    requires { ⌜ ((i : ℕ) → i < length (now placed) → isFree (now placed) i ≡ true) ⌝ }
+    requires { ⌜ length (now start) ≤ length (now order) ⌝ }
+    ensures { λ r. ⌜ ((allowance : ℕ) → Searched (cols (now (start .entry)) (now (finish .entry)) (now (writer .entry)) (now (last .entry)) (now (prev .entry))) allowance (λ H. untried (zones H)) (findingOf (now (order .exit)) r)) ⌝ }
 {
     lates(start, writer, last, late);
     let m = by_low(finish, late, writer, list);
-    decide(start, finish, writer, last, prev, late, &list[..m])
+    decide(
+        start,
+        finish,
+        writer,
+        last,
+        prev,
+        late,
+        &list[..m],
+        placed,
+        order,
+    )
 }
 
 // The zone method for few operations.
-fn search_few(start: &[u64], finish: &[u64], writer: &[u64], last: &[u64], prev: &[u64]) -> Search
+fn search_few(
+    start: &[u64],
+    finish: &[u64],
+    writer: &[u64],
+    last: &[u64],
+    prev: &[u64],
+    order: &mut [u64],
+) -> Search
     requires { ⌜ Sound (cols (now start) (now finish) (now writer) (now last) (now prev)) ⌝ }
     requires { ⌜ length (now start) ≤ 64 ⌝ }
-    ensures { λ r. ⌜ ((allowance : ℕ) → Searched (cols (now (start .entry)) (now (finish .entry)) (now (writer .entry)) (now (last .entry)) (now (prev .entry))) allowance (λ H. untried (zones H)) r) ⌝ }
+    requires { ⌜ length (now start) ≤ length (now order) ⌝ }
+    ensures { λ r. ⌜ ((allowance : ℕ) → Searched (cols (now (start .entry)) (now (finish .entry)) (now (writer .entry)) (now (last .entry)) (now (prev .entry))) allowance (λ H. untried (zones H)) (findingOf (now (order .exit)) r)) ⌝ }
 {
     let n = start.len();
     let mut late = [0u64; FEW];
     let mut list = [0u64; FEW];
-    search_with(start, finish, writer, last, prev, &mut late[..n], &mut list)
+    let mut placed = [0u8; FEW];
+    search_with(
+        start,
+        finish,
+        writer,
+        last,
+        prev,
+        &mut late[..n],
+        &mut list,
+        &mut placed,
+        order,
+    )
 }
 
 // The same for as many operations as a table has.
-fn search_many(start: &[u64], finish: &[u64], writer: &[u64], last: &[u64], prev: &[u64]) -> Search
+fn search_many(
+    start: &[u64],
+    finish: &[u64],
+    writer: &[u64],
+    last: &[u64],
+    prev: &[u64],
+    order: &mut [u64],
+) -> Search
     requires { ⌜ Sound (cols (now start) (now finish) (now writer) (now last) (now prev)) ⌝ }
     requires { ⌜ length (now start) ≤ largestCount ⌝ }
-    ensures { λ r. ⌜ ((allowance : ℕ) → Searched (cols (now (start .entry)) (now (finish .entry)) (now (writer .entry)) (now (last .entry)) (now (prev .entry))) allowance (λ H. untried (zones H)) r) ⌝ }
+    requires { ⌜ length (now start) ≤ length (now order) ⌝ }
+    ensures { λ r. ⌜ ((allowance : ℕ) → Searched (cols (now (start .entry)) (now (finish .entry)) (now (writer .entry)) (now (last .entry)) (now (prev .entry))) allowance (λ H. untried (zones H)) (findingOf (now (order .exit)) r)) ⌝ }
 {
     let n = start.len();
     let mut late = [0u64; Row::LARGEST_COUNT];
     let mut list = [0u64; Row::LARGEST_COUNT];
-    search_with(start, finish, writer, last, prev, &mut late[..n], &mut list)
+    let mut placed = [0u8; Row::LARGEST_COUNT];
+    search_with(
+        start,
+        finish,
+        writer,
+        last,
+        prev,
+        &mut late[..n],
+        &mut list,
+        &mut placed,
+        order,
+    )
 }
 
 // The zone method: whether the history is 1-atomic, with an order.
-pub fn search(start: &[u64], finish: &[u64], writer: &[u64], last: &[u64], prev: &[u64]) -> Search
+pub fn search(
+    start: &[u64],
+    finish: &[u64],
+    writer: &[u64],
+    last: &[u64],
+    prev: &[u64],
+    order: &mut [u64],
+) -> Search
     requires { ⌜ Sound (cols (now start) (now finish) (now writer) (now last) (now prev)) ⌝ }
     requires { ⌜ length (now start) ≤ largestCount ⌝ }
-    ensures { λ r. ⌜ ((allowance : ℕ) → Searched (cols (now (start .entry)) (now (finish .entry)) (now (writer .entry)) (now (last .entry)) (now (prev .entry))) allowance (λ H. untried (zones H)) r) ⌝ }
+    requires { ⌜ length (now start) ≤ length (now order) ⌝ }
+    ensures { λ r. ⌜ ((allowance : ℕ) → Searched (cols (now (start .entry)) (now (finish .entry)) (now (writer .entry)) (now (last .entry)) (now (prev .entry))) allowance (λ H. untried (zones H)) (findingOf (now (order .exit)) r)) ⌝ }
 {
     if start.len() <= FEW {
-        return search_few(start, finish, writer, last, prev);
+        return search_few(start, finish, writer, last, prev, order);
     }
-    search_many(start, finish, writer, last, prev)
+    search_many(start, finish, writer, last, prev, order)
 }

@@ -2,7 +2,8 @@
 use mathlib.Core.Path.{sym}
 use native.Mathlib.Omega.{arith}
 use lib.Seq.{length-take-le}
-use Rattle.fzf.proofs.Joining.{unmarked, shut-all}
+use Rattle.zones.proofs.Found.{unmarked}
+use Rattle.fzf.proofs.Joining.{shut-all}
 use borrow.Author.Needs.{needs}
 use Rattle.fzf.proofs.search_few.Statement.{statement}
 use Rattle.fzf.proofs.search_few.Tie as tie
@@ -35,7 +36,13 @@ slice-aggregate-search-with-8 : tie.Need-slice-aggregate-search-with-8
 slice-aggregate-search-with-8 c = search needs
 
 search-with-requires : tie.Need-search-with-requires
-search-with-requires c κs = let q = c .before .before .before .before .before .before .before .before .before .before .before .before .before .pre in let h = q .1 .0 in (q .0, (omega arith, (q .1 .1, (length-take-le _ _ (omega arith), (h, (h, (h, (h, (h, (unmarked 64, (h, (shut-all 64 _ (omega (arith, q .0 .shape .long)), h))))))))))))
+search-with-requires c κs =
+    let q = c .before .before .before .before .before .before .before .before .before .before .before .before .before .before .before .pre in
+    let h = q .1 .0 in
+    (q .0, (omega arith, (q .1 .1 .0, (length-take-le _ _ (omega arith), (h, (h, (h, (h, (h, (unmarked 64, (h, (shut-all 64 _ (omega (arith, q .0 .shape .long)), (h, q .1 .1 .1)))))))))))))
+
+same-length : tie.Need-same-length
+same-length c = search needs
 
 returns : tie.Need-returns
 returns c = search needs
@@ -54,4 +61,5 @@ search-few-spec =
     slice-aggregate-search-with-7
     slice-aggregate-search-with-8
     search-with-requires
+    same-length
     returns)

@@ -9,7 +9,7 @@ use Rattle.fzf.proofs.sides.Tie as tie
 
 mark-inner-requires : tie.Need-mark-inner-requires
 mark-inner-requires c κs =
-    let q = c .before .before .before .before .before .before .before .before .before .before .before .before .before .before .before .pre in
+    let q = c .before .before .before .before .before .before .before .before .before .before .before .before .before .before .before .before .pre in
     let z = q .1 .1 .1 .0 in
     let x = q .1 .1 .1 .1 .0 in
     let y = q .1 .1 .1 .1 .1 .0 in
@@ -18,10 +18,10 @@ mark-inner-requires c κs =
 
 join-requires : tie.Need-join-requires
 join-requires c κs =
-    let q = c .before .before .before .before .before .before .before .before .before .before .before .before .before .before .before .before .before .before .before .before .before .before .before .before .before .pre in
-    let m = c .before .before .before .before .before .before .before .before .before .mark-inner in
+    let q = c .before .before .before .before .before .before .before .before .before .before .before .before .before .before .before .before .before .before .before .before .before .before .before .before .before .before .before .pre in
+    let m = c .before .before .before .before .before .before .before .before .before .before .mark-inner in
     let l = q .1 .1 .1 .1 .1 .1 .1 .1 .0 in
-    (q .0, (q .1 .0, (q .1 .1 .0, (q .1 .1 .1 .0, (q .1 .1 .1 .1 .0, (q .1 .1 .1 .1 .1 .0, (omega (arith, m .kept .1 .1 .1 .1 .1 .0, q .1 .1 .1 .1 .1 .1 .0), (m .ensures, (record { inner = omega (arith, m .kept .1 .1 .1 .1 .0, l .inner); turns = l .turns; marks = l .marks; cells = l .cells }, q .1 .1 .1 .1 .1 .1 .1 .1 .1)))))))))
+    (q .0, (q .1 .0, (q .1 .1 .0, (q .1 .1 .1 .0, (q .1 .1 .1 .1 .0, (q .1 .1 .1 .1 .1 .0, (omega (arith, m .kept .1 .1 .1 .1 .1 .0, q .1 .1 .1 .1 .1 .1 .0), (m .ensures, (record { inner = omega (arith, m .kept .1 .1 .1 .1 .0, l .inner); turns = l .turns; marks = l .marks; cells = l .cells }, (q .1 .1 .1 .1 .1 .1 .1 .1 .1 .0, q .1 .1 .1 .1 .1 .1 .1 .1 .1 .1))))))))))
 
 same-length : tie.Need-same-length
 same-length c = search needs
@@ -38,6 +38,9 @@ same-length-4 c = search needs
 same-length-5 : tie.Need-same-length-5
 same-length-5 c = search needs
 
+same-length-6 : tie.Need-same-length-6
+same-length-6 c = search needs
+
 returns : tie.Need-returns
 returns c = search needs
 
@@ -52,4 +55,5 @@ sides-spec =
     same-length-3
     same-length-4
     same-length-5
+    same-length-6
     returns)

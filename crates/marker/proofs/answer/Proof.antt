@@ -1,6 +1,4 @@
 -- A law of `Answering` for each ending; the order has room by `Fits`.
-use lib.ListN.{length}
-use mathlib.Core.Path.{_≡_}
 use native.Mathlib.Omega.{arith}
 use Rattle.marker.proofs.Answering.{judged-stale, judged-spent, judged-fresh, places-long, same-places}
 use borrow.Author.Needs.{needs}
@@ -14,34 +12,36 @@ returns-2 : tie.Need-returns-2
 returns-2 c = λ C H m o q k. judged-spent o _ _ _ k (c .before .if1 .left) (c .if2 .taken)
 
 sub-m : tie.Need-sub-m
-sub-m c = c .before .before .before .before .before .pre .rising (c .before .if2 .left)
+sub-m c = c .before .before .before .before .before .pre .rising (c .if2 .left)
 
 mul-rows-at : tie.Need-mul-rows-at
-mul-rows-at c = omega (arith, c .before .before .before .before .before .pre .rising (c .before .if2 .left), c .before .before .before .before .before .pre .inside (c .before .if2 .left))
+mul-rows-at c =
+    let p = c .before .before .before .before .before .pre in
+    omega (arith, p .rising (c .if2 .left), p .inside (c .if2 .left), c .before .before .before .before .before .good .1 .0 .1)
 
 sub-rows-at : tie.Need-sub-rows-at
-sub-rows-at c = c .before .before .before .before .before .pre .rising (c .before .if2 .left)
+sub-rows-at c = c .before .before .before .before .before .pre .rising (c .if2 .left)
 
 part-rows-at-start : tie.Need-part-rows-at-start
-part-rows-at-start c = c .before .before .before .before .before .before .pre .rising (c .before .before .if2 .left)
+part-rows-at-start c = c .before .before .before .before .before .pre .rising (c .if2 .left)
 
 part-rows-at-end : tie.Need-part-rows-at-end
-part-rows-at-end c = let q : length (c .before .before .before .before .before .before .args .found .order) ≡ 1024 = c .before .before .before .before .before .before .pre .cells (c .before .before .if2 .left) in omega (arith, c .before .before .before .before .before .before .pre .inside (c .before .before .if2 .left))
+part-rows-at-end c = c .before .before .before .before .before .pre .inside (c .if2 .left)
 
 slice-relend-prefix-rows-at : tie.Need-slice-relend-prefix-rows-at
-slice-relend-prefix-rows-at c = c .before .before .before .before .before .before .before .pre .room (c .before .before .before .if2 .left)
+slice-relend-prefix-rows-at c = c .before .before .before .before .before .before .pre .room (c .before .if2 .left)
 
 slice-aggregate-rows-at : tie.Need-slice-aggregate-rows-at
-slice-aggregate-rows-at c = places-long _ _ (c .before .before .before .before .before .before .before .before .pre) (c .before .before .before .before .if2 .left)
+slice-aggregate-rows-at c = places-long _ _ (c .before .before .before .before .before .before .before .pre) (c .before .before .if2 .left)
 
 rows-at-requires : tie.Need-rows-at-requires
-rows-at-requires c κs = same-places _ _ (c .before .before .before .before .before .before .before .before .pre) (c .before .before .before .before .if2 .left)
+rows-at-requires c κs = same-places _ _ (c .before .before .before .before .before .before .before .pre) (c .before .before .if2 .left)
 
 same-length : tie.Need-same-length
 same-length c = search needs
 
 returns-3 : tie.Need-returns-3
-returns-3 c = λ C H m o q k. judged-fresh o _ _ _ k (c .before .before .before .before .before .before .before .if2 .left) _ _ q (c .before .before .rows-at .ensures)
+returns-3 c = λ C H m o q k. judged-fresh o _ _ _ k (c .before .before .before .before .before .if2 .left) _ _ q (c .before .before .rows-at .ensures)
 
 pub answer-spec : {M : Type 1} → statement M
 answer-spec =

@@ -1,3 +1,4 @@
+-- Each array has a place for each row.
 use mathlib.Core.Path.{sym}
 use native.Mathlib.Omega.{arith}
 use Rattle.marker.proofs.Working.{room-of}
@@ -5,55 +6,46 @@ use borrow.Author.Needs.{needs}
 use Rattle.marker.proofs.mark_few.Statement.{statement}
 use Rattle.marker.proofs.mark_few.Tie as tie
 
--- src/lib.rt:180:9
 array-borrow-prefix-start : tie.Need-array-borrow-prefix-start
 array-borrow-prefix-start c = search needs
 
--- src/lib.rt:180:9
 slice-aggregate-work : tie.Need-slice-aggregate-work
 slice-aggregate-work c = sym (room-of 64 (c .before .before .before .before .args .rows .now) (c .before .before .before .before .pre .1 .0) .room-start)
 
--- src/lib.rt:181:9
 array-borrow-prefix-finish : tie.Need-array-borrow-prefix-finish
 array-borrow-prefix-finish c = search needs
 
--- src/lib.rt:181:9
 slice-aggregate-work-2 : tie.Need-slice-aggregate-work-2
 slice-aggregate-work-2 c = sym (room-of 64 (c .before .before .before .before .before .args .rows .now) (c .before .before .before .before .before .pre .1 .0) .room-finish)
 
--- src/lib.rt:182:9
 array-borrow-prefix-writer : tie.Need-array-borrow-prefix-writer
 array-borrow-prefix-writer c = search needs
 
--- src/lib.rt:182:9
 slice-aggregate-work-3 : tie.Need-slice-aggregate-work-3
 slice-aggregate-work-3 c = sym (room-of 64 (c .before .before .before .before .before .before .args .rows .now) (c .before .before .before .before .before .before .pre .1 .0) .room-writer)
 
--- src/lib.rt:183:9
 array-borrow-prefix-last : tie.Need-array-borrow-prefix-last
 array-borrow-prefix-last c = search needs
 
--- src/lib.rt:183:9
 slice-aggregate-work-4 : tie.Need-slice-aggregate-work-4
 slice-aggregate-work-4 c = sym (room-of 64 (c .before .before .before .before .before .before .before .args .rows .now) (c .before .before .before .before .before .before .before .pre .1 .0) .room-last)
 
--- src/lib.rt:184:9
 array-borrow-prefix-prev : tie.Need-array-borrow-prefix-prev
 array-borrow-prefix-prev c = search needs
 
--- src/lib.rt:184:9
 slice-aggregate-work-5 : tie.Need-slice-aggregate-work-5
 slice-aggregate-work-5 c = sym (room-of 64 (c .before .before .before .before .before .before .before .before .args .rows .now) (c .before .before .before .before .before .before .before .before .pre .1 .0) .room-prev)
 
--- src/lib.rt:177:5
-work-requires : tie.Need-work-requires
-work-requires c κs = let q = c .before .before .before .before .before .before .before .before .before .pre in (room-of 64 _ (q .1 .0), (q .0, (omega (arith, q .1 .0), (q .1 .1 .0, q .1 .1 .1))))
+slice-aggregate-work-6 : tie.Need-slice-aggregate-work-6
+slice-aggregate-work-6 c = search needs
 
--- src/lib.rt:164:1
+work-requires : tie.Need-work-requires
+work-requires c κs =
+    let q = c .before .before .before .before .before .before .before .before .before .before .pre in (room-of 64 _ (q .1 .0), (q .0, (omega (arith, q .1 .0), (q .1 .1 .0, (q .1 .1 .1, q .1 .0)))))
+
 same-length : tie.Need-same-length
 same-length c = search needs
 
--- src/lib.rt:164:1
 returns : tie.Need-returns
 returns c = search needs
 
@@ -71,6 +63,7 @@ mark-few-spec =
     slice-aggregate-work-4
     array-borrow-prefix-prev
     slice-aggregate-work-5
+    slice-aggregate-work-6
     work-requires
     same-length
     returns)

@@ -1,8 +1,8 @@
 -- The writes by falling finish are those of the columns.
-use Rattle.marker.proofs.Working.{front-in}
 use lib.ListN.{length}
 use mathlib.Core.Path.{sym, ap, _∙_}
 use Rattle.columns.proofs.Sorted.{falls-finish}
+use Rattle.marker.proofs.Working.{front-in}
 use borrow.Author.Needs.{needs}
 use Rattle.marker.proofs.walk_with.Statement.{statement}
 use Rattle.marker.proofs.walk_with.Tie as tie
