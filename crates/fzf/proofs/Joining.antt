@@ -6,7 +6,7 @@ use mathlib.Core.Bool.{Bool, true, false, cond}
 use mathlib.Core.Logic.{_⊎_, inl, inr}
 use mathlib.Core.List.{List, [], _∷_, _++_, flatMap, append-nil, append-assoc, List·Memᴰ as In, List·Memᴰ·head as here, List·Memᴰ·append-cases}
 use native.Mathlib.Omega.{arith}
-use lib.ListN.{length, take, drop, replicate, length-append, length-map, length-drop, length-replicate, getD-replicate, drop-of-length-le}
+use lib.ListN.{length, take, drop, replicate, length-append, length-map, length-drop, getD-replicate, drop-of-length-le}
 use lib.Seq.{take-all, length-take-le}
 use lib.Dec.{leb}
 use borrow.Author.Tests.{leb-true, leb-false, le-leb}
@@ -21,7 +21,6 @@ use Rattle.methods.specs.Fzf.{Item, runs, dangles, made, items, putBefore, join
 use Rattle.methods.specs.Mark.{untried}
 use Rattle.positions.specs.Columns.{Cols, size, op, ops, Of, Says}
 use Rattle.positions.proofs.Columns.{size-is}
-use Rattle.placing.specs.States.{isFree}
 use Rattle.placing.specs.Searched.{Searched, is-stale, is-fresh}
 use Rattle.zones.specs.Zones.{Zoned}
 use Rattle.freeing.specs.Freed.{Shut}
@@ -80,10 +79,6 @@ part-whole part at = take-all (length part - at) (drop at part) (rw (length-drop
 -- at the outset everything is shut, and no backward zone was looked at
 pub poised-none : (C : Cols) (late F B placed : List ℕ) → Shut (length (C .writer)) placed → Poised C late F B 0 0 placed
 poised-none C late F B placed h = record { shut = h; behind = λ l. record { within = omega arith; lows = λ k b. absurd (omega arith) } }
-
--- no place is marked at the outset
-pub unmarked : (n i : ℕ) → i < length (replicate {A = ℕ} n 0) → isFree (replicate n 0) i ≡ true
-unmarked n i l = rw (getD-replicate {A = ℕ} n i 0 0 (omega (arith, l, length-replicate {A = ℕ} n 0)))
 
 -- everything is shut
 pub shut-all : (n m : ℕ) → m ≤ n → Shut m (replicate n 1)

@@ -5,7 +5,7 @@ use mathlib.Core.Path.{_≡_, refl, ap, sym, _∙_}
 use mathlib.Core.Bool.{true, false}
 use mathlib.Core.List.{List, [], _∷_, _++_, flatMap, append-nil, List·Memᴰ as In, List·Memᴰ·head as here, List·Memᴰ·tail as there}
 use native.Mathlib.Omega.{arith}
-use lib.ListN.{length, getD, take, drop, length-drop}
+use lib.ListN.{length, getD, take, drop, replicate, length-drop, length-replicate, getD-replicate, drop-of-length-le}
 use lib.Seq.{take-all}
 use Rattle.lists.proofs.Images.{map-append, getD-in}
 use Rattle.history.specs.declared.Op.{Op}
@@ -14,9 +14,9 @@ use Rattle.methods.specs.Mark.{untried}
 use Rattle.positions.specs.Places.{upto, Once}
 use Rattle.positions.specs.Columns.{Cols, size, readOf, Sound, op, ops, Of}
 use Rattle.positions.proofs.Once.{pairs-once}
+use Rattle.positions.proofs.Places.{upto-length}
 use Rattle.placing.specs.declared.State.{State}
-use Rattle.placing.specs.States.{laid, begun, Ready}
-use Rattle.placing.proofs.Begun.{begun-laid, begun-free, begun-ready}
+use Rattle.placing.specs.States.{isFree, laid, stateOf, Ready}
 use Rattle.placing.specs.Searched.{Searched, is-stale, is-fresh}
 use Rattle.zones.specs.Zones.{Zoned, writesAt, byLow}
 use Rattle.zones.specs.Pass.{pass, nowhere, zonesBy}
@@ -25,15 +25,9 @@ use Rattle.zones.proofs.Zone.{cluster-at}
 use Rattle.zones.proofs.ByLow.{by-low-write, by-low-in, by-low-apart, by-low, write-of}
 use Rattle.zones.proofs.Decided.{decided}
 
--- writes whose clusters are not placed in a state that has just begun
-pub begun-whole : (writer : List ℕ) (n : ℕ) → length writer ≤ 1024 → (list : List ℕ) → ((w : ℕ) → In w list → (w < length writer) × (getD writer w 0 ≡ w)) →
-    Whole writer list (length list) (begun n)
-begun-whole writer n h list k =
-    record {
-      inside = λ i l. k _ (getD-in list 0 i l) .0;
-      write = λ i l. k _ (getD-in list 0 i l) .1;
-      free = λ i j l m q. begun-free n j (omega arith);
-    }
+-- no place is marked at the outset
+pub unmarked : (n i : ℕ) → i < length (replicate {A = ℕ} n 0) → isFree (replicate n 0) i ≡ true
+unmarked n i l = rw (getD-replicate {A = ℕ} n i 0 0 (omega (arith, l, length-replicate {A = ℕ} n 0)))
 
 -- the clusters of a list of writes
 pub clusters-at : {C : Cols} {H : List Op} (o : Of C H) (p : Sound C) (l : List ℕ) → ((w : ℕ) → In w l → In w (writesAt (C .writer))) →
@@ -57,30 +51,51 @@ module _ (C : Cols) (p : Sound C) (h : size C ≤ 1024) (late : List ℕ) (g : Z
   search-stale list e allowance =
       is-stale refl (omega arith) (λ H o. let d : isOne H ≡ false = sym (decided o late g) ∙ (rw q at e) in rw d refl)
 
-  -- what `lay` requires
-  pub lay-asks : (s : State) → s ≡ begun (length (C .writer)) → Ready (length (C .writer)) s × (Whole (C .writer) L (length L) s × Once L)
-  lay-asks s e =
-      rw e (
-        begun-ready (length (C .writer)) (omega (arith, p .shape .long)),
-        (
-          begun-whole (C .writer) (length (C .writer)) (omega (arith, p .shape .long)) L (λ w m. by-low-write (C .finish) late (C .writer) (rw q at m)),
-          rw q (pairs-once (by-low-apart (C .finish) late (C .writer))),
-        ),
-      )
+  -- nothing is placed yet: no mark is set, and the order has all its places
+  module _ (placed cells : List ℕ) (m : size C ≤ length placed) (f : (j : ℕ) → j < length placed → isFree placed j ≡ true) (z : length cells ≡ 1024) where
+    abbrev s : State
+    s = stateOf placed cells 1024 (length (C .writer))
 
-  pub search-fresh : (s t : State) → s ≡ begun (length (C .writer)) → pass nowhere (zonesBy (C .finish) late L) ≡ true → Lays (C .writer) L s t → length (t .order) ≡ 1024 → (allowance : ℕ) →
-      Searched C allowance (λ H. untried (zones H)) (record { order = t .order; from = t .at; to = 1024; trials = 0; kind = 1 })
-  unfolding zones inOrder
-  search-fresh s t b e k z allowance =
-      is-fresh refl (omega arith) (omega (arith, k .ready .high)) (omega arith) z
-      (λ H o.
-      let d : isOne H ≡ true = sym (decided o late g) ∙ (rw q at e) in
-      rw d
-      (ap (λ (l : List Op). untried (order l))
-      (ap (flatMap (cluster H)) (sym (by-low o late g))
-      ∙ ap (λ (l : List ℕ). flatMap (cluster H) (ops H l)) (sym q)
-      ∙ clusters-at o p L (λ w m. by-low-in (C .finish) late (C .writer) (rw q at m))
-      ∙ ap (ops H) (sym (whole-order t z ∙ all-laid)))))
-    where
-      all-laid : laid t ≡ flatMap (clusterAt (C .writer)) L
-      all-laid = k .order ∙ rw (b, begun-laid (length (C .writer))) (append-nil _)
+    -- what `lay` requires
+    pub lay-asks : Ready (length (C .writer)) s × (Whole (C .writer) L (length L) s × Once L)
+    lay-asks = (
+      record {
+        size = omega (arith, p .shape .long);
+        within = omega arith;
+        marks = omega (arith, p .shape .long);
+        high = omega arith;
+        room = omega (arith, upto-length (isFree placed) (length (C .writer)), p .shape .long);
+        above = λ j a b. absurd (omega arith);
+      },
+      (
+        record {
+          inside = λ i l. listed i l .0;
+          write = λ i l. listed i l .1;
+          free = λ i j l k e. f j (omega (arith, p .shape .long));
+        },
+        rw q (pairs-once (by-low-apart (C .finish) late (C .writer))),
+      ),
+    )
+      where
+        listed : (i : ℕ) → i < length L → (getD L i 0 < length (C .writer)) × (getD (C .writer) (getD L i 0) 0 ≡ getD L i 0)
+        listed i l = by-low-write (C .finish) late (C .writer) (member (getD-in L 0 i l))
+          where
+            member : {w : ℕ} → In w L → In w (byLow (C .finish) late (C .writer))
+            member m = rw q at m
+
+    pub search-fresh : (t : State) → pass nowhere (zonesBy (C .finish) late L) ≡ true → Lays (C .writer) L s t → length (t .order) ≡ 1024 → (allowance : ℕ) →
+        Searched C allowance (λ H. untried (zones H)) (record { order = t .order; from = t .at; to = 1024; trials = 0; kind = 1 })
+    unfolding zones inOrder
+    search-fresh t e k y allowance =
+        is-fresh refl (omega arith) (omega (arith, k .ready .high)) (omega arith) y
+        (λ H o.
+        let d : isOne H ≡ true = sym (decided o late g) ∙ (rw q at e) in
+        rw d
+        (ap (λ (l : List Op). untried (order l))
+        (ap (flatMap (cluster H)) (sym (by-low o late g))
+        ∙ ap (λ (l : List ℕ). flatMap (cluster H) (ops H l)) (sym q)
+        ∙ clusters-at o p L (λ w m. by-low-in (C .finish) late (C .writer) (rw q at m))
+        ∙ ap (ops H) (sym (whole-order t y ∙ all-laid)))))
+      where
+        all-laid : laid t ≡ flatMap (clusterAt (C .writer)) L
+        all-laid = k .order ∙ rw (drop-of-length-le cells {i = 1024} (omega arith)) (append-nil _)

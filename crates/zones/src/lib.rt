@@ -3,6 +3,7 @@ use history::Row;
 use methods::Zone;
 use placing::Search;
 ghost use mathlib.Core.Path.{_≡_};
+ghost use mathlib.Core.Bool.{true};
 ghost use Prim.Native.Nat.{ℕ, _≤_, _<_, max};
 ghost use lib.ListN.{length, getD, take};
 ghost use Rattle.history.specs.Table.{largestCount};
@@ -10,7 +11,7 @@ ghost use Rattle.methods.specs.Zones.{zones};
 ghost use Rattle.methods.specs.Mark.{untried};
 ghost use Rattle.positions.specs.Places.{Once};
 ghost use Rattle.positions.specs.Columns.{cols, Linked, Sound};
-ghost use Rattle.placing.specs.States.{stateOf, Ready};
+ghost use Rattle.placing.specs.States.{isFree, stateOf, Ready};
 ghost use Rattle.placing.specs.Searched.{Searched};
 ghost use Rattle.zones.specs.Zones.{lastBy, Ends, Lates, zoneBy, Zoned, Lows, writesAt, byLow, Inside};
 ghost use Rattle.zones.specs.Lay.{Whole, Lays};
@@ -230,7 +231,7 @@ fn lay(
     a
 }
 
-// The zone method over the writes by low end.
+// The zone method over the writes by low end, with marks that are clean.
 fn decide(
     start: &[u64],
     finish: &[u64],
@@ -239,22 +240,24 @@ fn decide(
     prev: &[u64],
     late: &[u64],
     list: &[u64],
+    placed: &mut [u8],
 ) -> Search
     requires { ⌜ Sound (cols (now start) (now finish) (now writer) (now last) (now prev)) ⌝ }
     requires { ⌜ length (now start) ≤ largestCount ⌝ }
     requires { ⌜ Zoned (cols (now start) (now finish) (now writer) (now last) (now prev)) (now late) ⌝ }
     requires { ⌜ now list ≡ byLow (now finish) (now late) (now writer) ⌝ }
+    requires { ⌜ length (now start) ≤ length (now placed) ⌝ }
+    requires { ⌜ ((i : ℕ) → i < length (now placed) → isFree (now placed) i ≡ true) ⌝ }
     ensures { λ r. ⌜ ((allowance : ℕ) → Searched (cols (now (start .entry)) (now (finish .entry)) (now (writer .entry)) (now (last .entry)) (now (prev .entry))) allowance (λ H. untried (zones H)) r) ⌝ }
 {
     let mut order = [0u64; Row::LARGEST_COUNT];
     if one(finish, late, list) {
-        let mut placed = [0u8; Row::LARGEST_COUNT];
         let from = lay(
             writer,
             last,
             prev,
             list,
-            &mut placed,
+            placed,
             &mut order,
             Row::LARGEST_COUNT,
         );
@@ -275,7 +278,7 @@ fn decide(
     }
 }
 
-// The zone method, where `late` has a place for each operation, and the list at least as many.
+// The zone method, where `late` has a place for each operation, the other slices at least as many, and the marks are clean.
 fn search_with(
     start: &[u64],
     finish: &[u64],
@@ -284,16 +287,19 @@ fn search_with(
     prev: &[u64],
     late: &mut [u64],
     list: &mut [u64],
+    placed: &mut [u8],
 ) -> Search
     requires { ⌜ Sound (cols (now start) (now finish) (now writer) (now last) (now prev)) ⌝ }
     requires { ⌜ length (now start) ≤ largestCount ⌝ }
     requires { ⌜ length (now late) ≡ length (now start) ⌝ }
     requires { ⌜ length (now start) ≤ length (now list) ⌝ }
+    requires { ⌜ length (now start) ≤ length (now placed) ⌝ }
+    requires { ⌜ ((i : ℕ) → i < length (now placed) → isFree (now placed) i ≡ true) ⌝ }
     ensures { λ r. ⌜ ((allowance : ℕ) → Searched (cols (now (start .entry)) (now (finish .entry)) (now (writer .entry)) (now (last .entry)) (now (prev .entry))) allowance (λ H. untried (zones H)) r) ⌝ }
 {
     lates(start, writer, last, late);
     let m = by_low(finish, late, writer, list);
-    decide(start, finish, writer, last, prev, late, &list[..m])
+    decide(start, finish, writer, last, prev, late, &list[..m], placed)
 }
 
 // The zone method for few operations.
@@ -305,7 +311,17 @@ fn search_few(start: &[u64], finish: &[u64], writer: &[u64], last: &[u64], prev:
     let n = start.len();
     let mut late = [0u64; FEW];
     let mut list = [0u64; FEW];
-    search_with(start, finish, writer, last, prev, &mut late[..n], &mut list)
+    let mut placed = [0u8; FEW];
+    search_with(
+        start,
+        finish,
+        writer,
+        last,
+        prev,
+        &mut late[..n],
+        &mut list,
+        &mut placed,
+    )
 }
 
 // The same for as many operations as a table has.
@@ -317,7 +333,17 @@ fn search_many(start: &[u64], finish: &[u64], writer: &[u64], last: &[u64], prev
     let n = start.len();
     let mut late = [0u64; Row::LARGEST_COUNT];
     let mut list = [0u64; Row::LARGEST_COUNT];
-    search_with(start, finish, writer, last, prev, &mut late[..n], &mut list)
+    let mut placed = [0u8; Row::LARGEST_COUNT];
+    search_with(
+        start,
+        finish,
+        writer,
+        last,
+        prev,
+        &mut late[..n],
+        &mut list,
+        &mut placed,
+    )
 }
 
 // The zone method: whether the history is 1-atomic, with an order.

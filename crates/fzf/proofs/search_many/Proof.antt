@@ -2,7 +2,8 @@
 use mathlib.Core.Path.{sym}
 use native.Mathlib.Omega.{arith}
 use lib.Seq.{length-take-le}
-use Rattle.fzf.proofs.Joining.{unmarked, shut-all}
+use Rattle.zones.proofs.Found.{unmarked}
+use Rattle.fzf.proofs.Joining.{shut-all}
 use borrow.Author.Needs.{needs}
 use Rattle.fzf.proofs.search_many.Statement.{statement}
 use Rattle.fzf.proofs.search_many.Tie as tie

@@ -1,7 +1,8 @@
--- The column of largest starts is lent as long as the columns are.
+-- Each array has a place for each operation, and no mark is set.
 use mathlib.Core.Path.{sym}
 use native.Mathlib.Omega.{arith}
 use lib.Seq.{length-take-le}
+use Rattle.zones.proofs.Found.{unmarked}
 use borrow.Author.Needs.{needs}
 use Rattle.zones.proofs.search_many.Statement.{statement}
 use Rattle.zones.proofs.search_many.Tie as tie
@@ -15,8 +16,11 @@ slice-aggregate-search-with c = sym (length-take-le _ _ (omega arith))
 slice-aggregate-search-with-2 : tie.Need-slice-aggregate-search-with-2
 slice-aggregate-search-with-2 c = search needs
 
+slice-aggregate-search-with-3 : tie.Need-slice-aggregate-search-with-3
+slice-aggregate-search-with-3 c = search needs
+
 search-with-requires : tie.Need-search-with-requires
-search-with-requires c κs = let q = c .before .before .before .before .before .before .before .pre in (q .0, (omega arith, (length-take-le _ _ (omega arith), q .1)))
+search-with-requires c κs = let q = c .before .before .before .before .before .before .before .before .pre in (q .0, (omega arith, (length-take-le _ _ (omega arith), (q .1, (q .1, unmarked 1024)))))
 
 returns : tie.Need-returns
 returns c = search needs
@@ -28,5 +32,6 @@ search-many-spec =
     array-borrow-prefix-late
     slice-aggregate-search-with
     slice-aggregate-search-with-2
+    slice-aggregate-search-with-3
     search-with-requires
     returns)

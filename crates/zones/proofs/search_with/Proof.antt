@@ -9,7 +9,7 @@ use Rattle.zones.proofs.search_with.Statement.{statement}
 use Rattle.zones.proofs.search_with.Tie as tie
 
 lates-requires : tie.Need-lates-requires
-lates-requires c κs = let q = c .before .before .before .before .before .before .before .before .pre in (sound-ends _ (q .0), q .1 .1 .0)
+lates-requires c κs = let q = c .before .before .before .before .before .before .before .before .before .pre in (sound-ends _ (q .0), q .1 .1 .0)
 
 by-low-requires : tie.Need-by-low-requires
 by-low-requires c κs = search needs
@@ -18,16 +18,19 @@ slice-reshare-prefix-decide : tie.Need-slice-reshare-prefix-decide
 slice-reshare-prefix-decide c = search needs
 
 slice-aggregate-decide : tie.Need-slice-aggregate-decide
-slice-aggregate-decide c = let q = c .before .before .before .before .before .before .before .before .before .before .before .before .before .before .before .before .before .before .pre in let l = c .before .before .before .before .by-low in sym (length-take-le (l .result) _ (omega (arith, l .ensures .0, l .kept .1 .1 .1 .0, q .1 .1 .1, q .0 .shape .long)))
+slice-aggregate-decide c = let q = c .before .before .before .before .before .before .before .before .before .before .before .before .before .before .before .before .before .before .before .pre in let l = c .before .before .before .before .by-low in sym (length-take-le (l .result) _ (omega (arith, l .ensures .0, l .kept .1 .1 .1 .0, q .1 .1 .1 .0, q .0 .shape .long)))
 
 decide-requires : tie.Need-decide-requires
-decide-requires c κs = let q = c .before .before .before .before .before .before .before .before .before .before .before .before .before .before .before .before .before .before .pre in (q .0, (q .1 .0, (lates-zoned _ (q .0) _ (c .before .before .before .before .before .before .before .before .before .lates .ensures), c .before .before .before .before .by-low .ensures .1)))
+decide-requires c κs = let q = c .before .before .before .before .before .before .before .before .before .before .before .before .before .before .before .before .before .before .before .before .pre in (q .0, (q .1 .0, (lates-zoned _ (q .0) _ (c .before .before .before .before .before .before .before .before .before .before .lates .ensures), (c .before .before .before .before .before .by-low .ensures .1, (q .1 .1 .1 .1 .0, q .1 .1 .1 .1 .1)))))
 
 same-length : tie.Need-same-length
 same-length c = search needs
 
 same-length-2 : tie.Need-same-length-2
 same-length-2 c = search needs
+
+same-length-3 : tie.Need-same-length-3
+same-length-3 c = search needs
 
 returns : tie.Need-returns
 returns c = search needs
@@ -43,4 +46,5 @@ search-with-spec =
     decide-requires
     same-length
     same-length-2
+    same-length-3
     returns)
