@@ -1,11 +1,11 @@
--- The front of a local array of the limit's length: lent with zeros, with what a callee left there, and lent again.
+-- The front of a local array of the limit's length, which begins with zeros.
 -- Assumes nothing.
 use Prim.Native.Nat.{ℕ, zero, suc, _≤_}
-use mathlib.Core.Path.{_≡_, refl, ap, sym, _∙_}
-use mathlib.Core.List.{List, _∷_, _++_}
+use mathlib.Core.Path.{_≡_, refl, ap, sym}
+use mathlib.Core.List.{List, _∷_}
 use native.Mathlib.Omega.{arith}
-use lib.ListN.{length, take, drop, replicate, length-append, length-replicate}
-use lib.Seq.{take-at, length-take-le}
+use lib.ListN.{length, take, replicate, length-replicate}
+use lib.Seq.{length-take-le}
 
 -- a list that is as long as a local array has a front of m places
 pub front-long : (m : ℕ) (l : List ℕ) → length l ≡ length (replicate {A = ℕ} 1024 0) → m ≤ 1024 → m ≡ length (take m l)
@@ -20,14 +20,3 @@ zeros (suc n) (suc m) h = ap (λ (l : List ℕ). 0 ∷ l) (zeros n m (omega arit
 module _ (n : ℕ) (h : n ≤ 1024) where
   pub zero-long : n ≡ length (take {A = ℕ} n (replicate 1024 0))
   zero-long = sym (length-take-le n (replicate 1024 0) (rw (length-replicate {A = ℕ} 1024 0) h))
-
-  -- xs stands where the front was lent
-  module _ (xs : List ℕ) (k : length xs ≡ length (take {A = ℕ} n (replicate 1024 0))) where
-    pub part-is : take n (xs ++ drop n (replicate 1024 0)) ≡ xs
-    part-is = take-at xs (drop n (replicate 1024 0)) n (k ∙ sym zero-long)
-
-    pub part-long : n ≡ length (take n (xs ++ drop n (replicate 1024 0)))
-    part-long = zero-long ∙ sym k ∙ ap length (sym part-is)
-
-    pub part-in : n ≤ length (xs ++ drop n (replicate 1024 0))
-    part-in = rw (length-append) (omega (arith, k, zero-long))
