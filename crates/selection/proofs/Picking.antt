@@ -3,7 +3,7 @@
 use Prim.Native.Nat.{ℕ, _+_, _*_, _^_, _≤_, _<_}
 use mathlib.Core.Path.{_≡_, refl, sym, ap, _∙_}
 use mathlib.Core.Logic.{_⊎_, inl, inr, _≢_}
-use mathlib.Core.Bool.{Bool, true, false, not, _||_}
+use mathlib.Core.Bool.{true, false, not, _||_}
 use mathlib.Core.List.{List, [], _∷_, _++_, append-nil}
 use native.Mathlib.Nat.{eq-or-lt-of-le}
 use native.Mathlib.Numerals.{add-one}
@@ -11,14 +11,13 @@ use native.Mathlib.Omega.{arith}
 use borrow.Author.Tests.{not-false}
 use lib.Dec.{eqb}
 use lib.ListN.{length, take, set, length-set}
-use lib.Seq.{take-suc-set, take-set-le, length-take-le}
+use lib.Seq.{take-suc-set, length-take-le}
 use Rattle.lists.specs.Lists.{from, put, keep, upTo}
 use Rattle.lists.proofs.Tests.{Told, told-same, told-true, told-false, true-told, told-as, told-and, told-or, told-eqb}
 use Rattle.lists.proofs.Images.{keep-append}
 use Rattle.lists.proofs.Ranges.{up-to-more}
 use Rattle.history.specs.Table.{operation, isWrite, isRead}
 use Rattle.history.specs.Screen.{wrongKind}
-use Rattle.history.proofs.Searches.{oneIf, one-if-small}
 use Rattle.files.specs.Records.{field, begun, recordAt}
 use Rattle.files.proofs.Passing.{Whole, kind-test}
 use Rattle.selection.specs.Selected.{isSound, isOf, recordsOf, Regular, Picks, is-picked}
@@ -35,25 +34,25 @@ module _ (bs : List ℕ) (n : ℕ) where
   told-sound = told-and (told-eqb size 34) (told-or (told-eqb kind 1) (told-eqb kind 2))
 
   -- the head as one number
-  module _ (head : ℕ) (h : head ≡ size + 65536 * kind) (small : size < 256 ^ 2) where
-    told-head : Told ((head ≡ 65570) ⊎ (head ≡ 131106)) (isSound bs n)
+  module _ (head : ℕ) (h : head ≡ kind + 65536 * size) (small : kind < 256 ^ 2) where
+    told-head : Told ((head ≡ 2228225) ⊎ (head ≡ 2228226)) (isSound bs n)
     told-head = told-as there back told-sound
       where
-        there : (size ≡ 34) × ((kind ≡ 1) ⊎ (kind ≡ 2)) → (head ≡ 65570) ⊎ (head ≡ 131106)
+        there : (size ≡ 34) × ((kind ≡ 1) ⊎ (kind ≡ 2)) → (head ≡ 2228225) ⊎ (head ≡ 2228226)
         there (s, inl k) = inl (omega (arith, h))
         there (s, inr k) = inr (omega (arith, h))
 
-        back : (head ≡ 65570) ⊎ (head ≡ 131106) → (size ≡ 34) × ((kind ≡ 1) ⊎ (kind ≡ 2))
+        back : (head ≡ 2228225) ⊎ (head ≡ 2228226) → (size ≡ 34) × ((kind ≡ 1) ⊎ (kind ≡ 2))
         back (inl e) = let k : kind ≡ 1 = omega (arith, h, small) in (omega (arith, h, small), inl k)
         back (inr e) = let k : kind ≡ 2 = omega (arith, h, small) in (omega (arith, h, small), inr k)
 
-    pub head-write : head ≡ 65570 → true ≡ isSound bs n
+    pub head-write : head ≡ 2228225 → true ≡ isSound bs n
     head-write e = sym (true-told told-head (inl e))
 
-    pub head-read : head ≢ 65570 → eqb head 131106 ≡ isSound bs n
-    head-read w = told-same (told-as inr only (told-eqb head 131106)) told-head
+    pub head-read : head ≢ 2228225 → eqb head 2228226 ≡ isSound bs n
+    head-read w = told-same (told-as inr only (told-eqb head 2228226)) told-head
       where
-        only : (head ≡ 65570) ⊎ (head ≡ 131106) → head ≡ 131106
+        only : (head ≡ 2228225) ⊎ (head ≡ 2228226) → head ≡ 2228226
         only (inl e) = absurd (w e)
         only (inr e) = e
 
@@ -92,26 +91,37 @@ module _ (bs : List ℕ) (register : ℕ) (picks₀ : List ℕ) where
     unfolding keep
     keep-more = rw (up-to-more i) (keep-append (isOf bs register) (upTo i) (i ∷ []))
 
-    kept : (b : Bool) → take (m + oneIf b) (set picks m i) ≡ keep (isOf bs register) (upTo i) ++ put b i []
-    unfolding put
-    kept true = rw (add-one m) (take-suc-set picks m i (omega (arith, g .few, g .long))) ∙ ap (λ (z : List ℕ). z ++ (i ∷ [])) (g .front)
-    kept false =
-        let e : m + 0 ≡ m = omega arith in
-        rw e (take-set-le m picks m i (omega arith)) ∙ g .front ∙ sym (append-nil (keep (isOf bs register) (upTo i)))
+    sound-more : isSound bs i ≡ true → (j : ℕ) → j < i + 1 → isSound bs j ≡ true
+    sound-more s j k = each (eq-or-lt-of-le (omega arith))
+      where
+        each : (j ≡ i) ⊎ (j < i) → isSound bs j ≡ true
+        each (inl q) = rw q s
+        each (inr l) = g .sound j l
 
-    pub pick-more : (one : ℕ) → one ≡ oneIf (isOf bs register i) → isSound bs i ≡ true → Picking n (i + 1) (m + one) (set picks m i)
-    pick-more one e s =
+    pub pick-out : isOf bs register i ≡ false → isSound bs i ≡ true → Picking n (i + 1) m picks
+    unfolding put
+    pick-out e s =
         record {
-          few = omega (arith, g .few, one-if-small (isOf bs register i));
+          few = omega (arith, g .few);
+          within = omega arith;
+          long = g .long;
+          sound = sound-more s;
+          front = g .front ∙ sym (keep-more ∙ rw e (append-nil (keep (isOf bs register) (upTo i))));
+        }
+
+    pub pick-in : isOf bs register i ≡ true → isSound bs i ≡ true → Picking n (i + 1) (m + 1) (set picks m i)
+    unfolding put
+    pick-in e s =
+        record {
+          few = omega (arith, g .few);
           within = omega arith;
           long = length-set picks m i ∙ g .long;
-          sound = λ j k. each j (eq-or-lt-of-le (omega arith));
-          front = rw e (kept (isOf bs register i)) ∙ sym keep-more;
+          sound = sound-more s;
+          front =
+              rw (add-one m) (take-suc-set picks m i (omega (arith, g .few, g .long)))
+              ∙ ap (λ (z : List ℕ). z ++ (i ∷ [])) (g .front)
+              ∙ sym (keep-more ∙ rw e);
         }
-      where
-        each : (j : ℕ) → (j ≡ i) ⊎ (j < i) → isSound bs j ≡ true
-        each j (inl q) = rw q s
-        each j (inr k) = g .sound j k
 
   pub pick-end : (n i m : ℕ) (picks : List ℕ) → n ≡ begun bs → n ≤ i → n ≤ length picks₀ → Regular bs → Picking n i m picks →
       Picks bs register picks (record { count = m; sound = true })

@@ -6,38 +6,34 @@ ghost use mathlib.Core.List.{_++_, flatMap};
 ghost use Prim.Native.Nat.{ℕ, _+_, _*_, _≤_, _<_};
 ghost use lib.ListN.{length, getD, drop};
 ghost use Rattle.history.specs.Table.{largestCount};
-ghost use Rattle.history.proofs.Searches.{oneIf};
 ghost use Rattle.files.specs.Records.{begun, recordAt, cells};
 ghost use Rattle.selection.specs.Selected.{isSound, isOf, Regular, Picks, selectAnswer, selectTable};
 
-// The first four bytes of a sound record as one number: the length 34, and behind it the kind.
-const WRITE_HEAD: u64 = 65570;
+// What the first four bytes of a sound record say as one number, the length 34 above the kind: the two kinds are neighbours.
+const WRITE_HEAD: u64 = 2228225;
 
-const READ_HEAD: u64 = 131106;
+const READ_HEAD: u64 = 2228226;
 
-// Whether a record has the right length field and a right kind: one comparison for both, since nearly all records have.
+// Whether a record has the right length field and a right kind: one number for both, so that no branch has to guess the kind.
 fn is_sound(bytes: &[u8], row: usize) -> bool
     requires { ⌜ row * 36 + 36 ≤ length (now bytes) ⌝ }
     ensures { λ r. ⌜ r ≡ isSound (now (bytes .entry)) row ⌝ }
 {
     let at = row * files::RECORD;
-    let head = files::two(bytes, at) + 65536 * files::two(bytes, at + 2);
+    let head = files::two(bytes, at + 2) + 65536 * files::two(bytes, at);
     if head == WRITE_HEAD {
         return true;
     }
     head == READ_HEAD
 }
 
-// 1 where the record bears the register, else 0.
-fn borne(bytes: &[u8], register: u64, row: usize) -> usize
+// Whether the record bears the register.
+fn bears(bytes: &[u8], register: u64, row: usize) -> bool
     requires { ⌜ row * 36 + 36 ≤ length (now bytes) ⌝ }
-    ensures { λ r. ⌜ r ≡ oneIf (isOf (now (bytes .entry)) register row) ⌝ }
+    ensures { λ r. ⌜ r ≡ isOf (now (bytes .entry)) register row ⌝ }
 {
     let at = row * files::RECORD;
-    if files::eight(bytes, at + 4) == register {
-        return 1;
-    }
-    0
+    files::eight(bytes, at + 4) == register
 }
 
 // How many records bear the register, where the file is sound.
@@ -46,8 +42,7 @@ struct Picked {
     sound: bool,
 }
 
-// The numbers of the register's records, at the front of the slice. Each number is written, and the next one over it unless the record
-// bears the register: so the loop has no branch that is hard to foresee.
+// The numbers of the register's records, at the front of the slice.
 fn pick(bytes: &[u8], register: u64, picks: &mut [u16]) -> Picked
     requires { ⌜ Regular (now bytes) ⌝ }
     requires { ⌜ length (now picks) ≡ largestCount ⌝ }
@@ -65,8 +60,10 @@ fn pick(bytes: &[u8], register: u64, picks: &mut [u16]) -> Picked
             };
         }
         i += 1;
-        picks[m] = row as u16;
-        m += borne(bytes, register, row);
+        if bears(bytes, register, row) {
+            picks[m] = row as u16;
+            m += 1;
+        }
     }
     Picked {
         count: m,
