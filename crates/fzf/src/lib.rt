@@ -373,7 +373,8 @@ fn search_with(
     ensures { λ r. ⌜ ((allowance : ℕ) → Searched (cols (now (start .entry)) (now (finish .entry)) (now (writer .entry)) (now (last .entry)) (now (prev .entry))) allowance (λ H. untried (fzf H)) (findingOf (now (order .exit)) r)) ⌝ }
 {
     zones::lates(start, writer, last, late);
-    let m = zones::by_low(finish, late, writer, list);
+    // The part is written later, and has the room for the low ends until then.
+    let m = zones::by_low(finish, late, writer, part, list);
     let f = chunking::part(finish, late, &list[..m], true, forwards);
     let b = chunking::part(finish, late, &list[..m], false, backwards);
     // The list is read no more, and has the room for a chunk's sequence.

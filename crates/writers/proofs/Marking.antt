@@ -9,8 +9,8 @@ use mathlib.Core.List.{List, map}
 use native.Mathlib.Decide.{ℕ-discrete}
 use native.Mathlib.Omega.{arith}
 use borrow.Author.Tests.{eq-eqb, ne-eqb}
-use lib.ListN.{length, getD, drop, set, length-set, length-map}
-use lib.Seq.{drop-cons, drop-length, getD-set-same, getD-set-other}
+use lib.ListN.{length, getD, take, drop, replicate, set, length-set, length-map, getD-replicate}
+use lib.Seq.{drop-cons, drop-length, getD-take, getD-set-same, getD-set-other}
 use Rattle.lists.proofs.Images.{getD-map}
 use Rattle.history.specs.Table.{opAt, isWrite}
 use Rattle.sorting.specs.Firsts.{Firsts}
@@ -119,6 +119,6 @@ module _ (t rows firsts : List ℕ) where
 pub firsts-of : {keys same firsts : List ℕ} → keys ≡ same → Firsts keys firsts → Firsts same firsts
 firsts-of e f = rw (← e) f
 
--- a slice of zeros
-pub cleared : (list₀ list : List ℕ) (n : ℕ) → list ≡ map (λ _. 0) list₀ → length list₀ ≡ n → (j : ℕ) → j < n → getD list j 0 ≡ 0
-cleared list₀ list n e q j h = ap (λ (l : List ℕ). getD l j 0) e ∙ getD-map (λ _. 0) list₀ j 0 0 (omega arith)
+-- the front of an array of zeros
+pub zeros-front : (size k : ℕ) → k ≤ size → (j : ℕ) → j < k → getD (take k (replicate {A = ℕ} size 0)) j 0 ≡ 0
+zeros-front size k l j h = getD-take k (replicate {A = ℕ} size 0) j 0 h ∙ getD-replicate {A = ℕ} size j 0 0 (omega arith)

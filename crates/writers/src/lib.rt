@@ -73,26 +73,18 @@ fn pick(table: &[u64], rows: &[u64], firsts: &[u64], slots: &[u64], out: &mut [u
     }
 }
 
-// The write of each row; the three slices have a place for each.
-fn writers_with(
-    table: &[u64],
-    rows: &[u64],
-    values: &mut [u64],
-    firsts: &mut [u64],
-    slots: &mut [u64],
-    out: &mut [u64],
-)
+// The write of each row; the slices have a place for each, and the slots are zeros. The values stand where the writes come to stand.
+fn writers_with(table: &[u64], rows: &[u64], firsts: &mut [u64], slots: &mut [u64], out: &mut [u64])
     requires { ⌜ Within (now table) (now rows) ⌝ }
     requires { ⌜ length (now rows) ≤ largestCount ⌝ }
-    requires { ⌜ length (now values) ≡ length (now rows) ⌝ }
     requires { ⌜ length (now firsts) ≡ length (now rows) ⌝ }
     requires { ⌜ length (now slots) ≡ length (now rows) ⌝ }
+    requires { ⌜ ((j : ℕ) → j < length (now rows) → getD (now slots) j 0 ≡ 0) ⌝ }
     requires { ⌜ length (now out) ≡ length (now rows) ⌝ }
     ensures { λ _. ⌜ now (out .exit) ≡ map (writerOf (now (table .entry)) (now (rows .entry))) (now (rows .entry)) ⌝ }
 {
-    value_of(table, rows, values);
-    holders::firsts(values, firsts);
-    clear(slots);
+    value_of(table, rows, out);
+    holders::firsts(out, firsts);
     mark(table, rows, firsts, slots);
     pick(table, rows, firsts, slots, out);
 }
@@ -108,17 +100,9 @@ fn writers_few(table: &[u64], rows: &[u64], out: &mut [u64])
     ensures { λ _. ⌜ now (out .exit) ≡ map (writerOf (now (table .entry)) (now (rows .entry))) (now (rows .entry)) ⌝ }
 {
     let n = rows.len();
-    let mut values = [0u64; FEW];
     let mut firsts = [0u64; FEW];
     let mut slots = [0u64; FEW];
-    writers_with(
-        table,
-        rows,
-        &mut values[..n],
-        &mut firsts[..n],
-        &mut slots[..n],
-        out,
-    );
+    writers_with(table, rows, &mut firsts[..n], &mut slots[..n], out);
 }
 
 // The same for as many rows as a table has.
@@ -129,17 +113,9 @@ fn writers_many(table: &[u64], rows: &[u64], out: &mut [u64])
     ensures { λ _. ⌜ now (out .exit) ≡ map (writerOf (now (table .entry)) (now (rows .entry))) (now (rows .entry)) ⌝ }
 {
     let n = rows.len();
-    let mut values = [0u64; Row::LARGEST_COUNT];
     let mut firsts = [0u64; Row::LARGEST_COUNT];
     let mut slots = [0u64; Row::LARGEST_COUNT];
-    writers_with(
-        table,
-        rows,
-        &mut values[..n],
-        &mut firsts[..n],
-        &mut slots[..n],
-        out,
-    );
+    writers_with(table, rows, &mut firsts[..n], &mut slots[..n], out);
 }
 
 // The position of the first write of each row's value among the rows; their number where there is none.

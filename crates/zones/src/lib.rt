@@ -145,7 +145,7 @@ fn one(finish: &[u64], late: &[u64], list: &[u64]) -> bool
 }
 
 // The writes by low end, at the front of the list, where `low` has a place for the low end of each; their number.
-fn by_low_with(
+pub fn by_low(
     finish: &[u64],
     late: &[u64],
     writer: &[u64],
@@ -165,44 +165,6 @@ fn by_low_with(
 
 // So many operations are few: short arrays do for them, which are sooner cleared than the long ones.
 pub const FEW: usize = 64;
-
-// The writes of few operations by low end.
-fn by_low_few(finish: &[u64], late: &[u64], writer: &[u64], list: &mut [u64]) -> usize
-    requires { ⌜ length (now finish) ≡ length (now writer) ⌝ }
-    requires { ⌜ length (now late) ≡ length (now finish) ⌝ }
-    requires { ⌜ length (now writer) ≤ 64 ⌝ }
-    requires { ⌜ length (now writer) ≤ length (now list) ⌝ }
-    ensures { λ r. ⌜ (r ≤ length (now (writer .entry))) × (take r (now (list .exit)) ≡ byLow (now (finish .entry)) (now (late .entry)) (now (writer .entry))) ⌝ }
-{
-    let mut low = [0u64; FEW];
-    by_low_with(finish, late, writer, &mut low, list)
-}
-
-// The same for as many operations as a table has.
-fn by_low_many(finish: &[u64], late: &[u64], writer: &[u64], list: &mut [u64]) -> usize
-    requires { ⌜ length (now finish) ≡ length (now writer) ⌝ }
-    requires { ⌜ length (now late) ≡ length (now finish) ⌝ }
-    requires { ⌜ length (now writer) ≤ largestCount ⌝ }
-    requires { ⌜ length (now writer) ≤ length (now list) ⌝ }
-    ensures { λ r. ⌜ (r ≤ length (now (writer .entry))) × (take r (now (list .exit)) ≡ byLow (now (finish .entry)) (now (late .entry)) (now (writer .entry))) ⌝ }
-{
-    let mut low = [0u64; Row::LARGEST_COUNT];
-    by_low_with(finish, late, writer, &mut low, list)
-}
-
-// The writes by low end, at the front of the list; their number.
-pub fn by_low(finish: &[u64], late: &[u64], writer: &[u64], list: &mut [u64]) -> usize
-    requires { ⌜ length (now finish) ≡ length (now writer) ⌝ }
-    requires { ⌜ length (now late) ≡ length (now finish) ⌝ }
-    requires { ⌜ length (now writer) ≤ largestCount ⌝ }
-    requires { ⌜ length (now writer) ≤ length (now list) ⌝ }
-    ensures { λ r. ⌜ (r ≤ length (now (writer .entry))) × (take r (now (list .exit)) ≡ byLow (now (finish .entry)) (now (late .entry)) (now (writer .entry))) ⌝ }
-{
-    if writer.len() <= FEW {
-        return by_low_few(finish, late, writer, list);
-    }
-    by_low_many(finish, late, writer, list)
-}
 
 // The clusters of the listed writes, in their sequence, in front of what is laid; where the order begins then.
 fn lay(
@@ -292,7 +254,8 @@ fn search_with(
     ensures { λ r. ⌜ ((allowance : ℕ) → Searched (cols (now (start .entry)) (now (finish .entry)) (now (writer .entry)) (now (last .entry)) (now (prev .entry))) allowance (λ H. untried (zones H)) (findingOf (now (order .exit)) r)) ⌝ }
 {
     lates(start, writer, last, late);
-    let m = by_low(finish, late, writer, list);
+    // The order is written later, and has the room for the low ends until then.
+    let m = by_low(finish, late, writer, order, list);
     decide(
         start,
         finish,

@@ -20,13 +20,15 @@ slice-reshare-prefix-decide c = search needs
 
 slice-aggregate-decide : tie.Need-slice-aggregate-decide
 slice-aggregate-decide c =
-    let q = c .before .before .before .before .before .before .before .before .before .before .before .before .before .before .before .before .before .before .before .before .pre in
-    let l = c .before .before .before .before .by-low in
-    sym (length-take-le (l .result) _ (omega (arith, l .ensures .0, l .kept .1 .1 .1 .0, q .1 .1 .1 .0, q .0 .shape .long)))
+    let q = c .before .before .before .before .before .before .before .before .before .before .before .before .before .before .before .before .before .before .before .before .before .before .before .pre in
+    let l = c .before .before .before .before .before .before .by-low in
+    sym (length-take-le (l .result) _ (omega (arith, l .ensures .0, l .kept .1 .1 .1 .1 .0, q .1 .1 .1 .0, q .0 .shape .long)))
 
 decide-requires : tie.Need-decide-requires
 decide-requires c κs =
-    let q = c .before .before .before .before .before .before .before .before .before .before .before .before .before .before .before .before .before .before .before .before .before .before .pre in (q .0, (q .1 .0, (lates-zoned _ (q .0) _ (c .before .before .before .before .before .before .before .before .before .before .before .lates .ensures), (c .before .before .before .before .before .before .by-low .ensures .1, (q .1 .1 .1 .1 .0, (q .1 .1 .1 .1 .1 .0, q .1 .1 .1 .1 .1 .1))))))
+    let q = c .before .before .before .before .before .before .before .before .before .before .before .before .before .before .before .before .before .before .before .before .before .before .before .before .before .pre in
+    let l = c .before .before .before .before .before .before .before .before .by-low in
+    (q .0, (q .1 .0, (lates-zoned _ (q .0) _ (c .before .before .before .before .before .before .before .before .before .before .before .before .before .before .lates .ensures), (l .ensures .1, (q .1 .1 .1 .1 .0, (q .1 .1 .1 .1 .1 .0, omega (arith, l .kept .1 .1 .1 .0, q .1 .1 .1 .1 .1 .1)))))))
 
 same-length : tie.Need-same-length
 same-length c = search needs

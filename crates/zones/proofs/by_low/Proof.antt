@@ -6,8 +6,8 @@ use mathlib.Core.Path.{sym, _∙_, ap}
 use native.Mathlib.Omega.{arith}
 use Rattle.zones.proofs.ByLow.{sorted-by-low}
 use borrow.Author.Needs.{needs}
-use Rattle.zones.proofs.by_low_with.Statement.{statement}
-use Rattle.zones.proofs.by_low_with.Tie as tie
+use Rattle.zones.proofs.by_low.Statement.{statement}
+use Rattle.zones.proofs.by_low.Tie as tie
 
 low-ends-requires : tie.Need-low-ends-requires
 low-ends-requires c κs = search needs
@@ -38,8 +38,8 @@ returns c =
           ∙ sorted-by-low _ _ _ _ (l .ensures .2),
     )
 
-pub by-low-with-spec : {M : Type 1} → statement M
-by-low-with-spec =
+pub by-low-spec : {M : Type 1} → statement M
+by-low-spec =
     tie.close
     (tie.spec
     low-ends-requires
