@@ -10,7 +10,7 @@ use Rattle.holders.specs.declared.Seen.{Seen}
 
 -- how many buckets there are for few keys and for many, and the most keys
 abbrev pub buckets : Bool → ℕ
-buckets few = cond few 251 4093
+buckets few = cond few 127 4093
 
 abbrev pub mostKeys : ℕ
 mostKeys = 2048

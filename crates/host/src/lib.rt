@@ -25,8 +25,8 @@ fn code_with(bytes: &[u8], register: u64, question: u64, table: &mut [u64]) -> u
     mark.code
 }
 
-// Most registers have few rows: 64 of them, for which a short table does, since a long one takes longer to clear than they take to mark.
-const FEW_CELLS: usize = 320;
+// Most registers have few rows: 32 of them, for which a short table does, since a long one takes longer to clear than they take to mark.
+const FEW_CELLS: usize = 160;
 
 // The code of the file's refusal, else of the mark; what the mark says is `Said`.
 #[no_mangle]

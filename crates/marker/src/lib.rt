@@ -30,7 +30,7 @@ const LBT: u64 = 2;
 const FZF: u64 = 3;
 
 // So many rows are few: short arrays do for them, which are sooner cleared than the long ones.
-const FEW: usize = 64;
+const FEW: usize = 32;
 
 // Whether there is no such question.
 fn unasked(question: u64) -> bool
@@ -207,7 +207,7 @@ fn work(
 // The mark of a screened register of few rows, from these by rising start.
 fn mark_few(table: &[u64], rows: &[u64], question: u64, allowance: u64, list: &mut [u64]) -> Answer
     requires { ⌜ ((register : ℕ) × Listed (now table) register (now rows)) ⌝ }
-    requires { ⌜ length (now rows) ≤ 64 ⌝ }
+    requires { ⌜ length (now rows) ≤ 32 ⌝ }
     requires { ⌜ length (now rows) ≤ length (now list) ⌝ }
     requires { ⌜ Asked question ⌝ }
     ensures { λ r. ⌜ ((register : ℕ) → Listed (now (table .entry)) register (now (rows .entry)) → outcome r (now (list .exit)) ≡ judged (length (history (now (table .entry)) register)) allowance (now (list .entry)) (method question (prepared (history (now (table .entry)) register)))) ⌝ }

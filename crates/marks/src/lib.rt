@@ -10,7 +10,7 @@ ghost use Rattle.marks.specs.Marks.{answerTo, Ample, Said};
 pub const MOST_TRIALS: u64 = 524800;
 
 // So many rows are few: a short list does for them, which is sooner cleared than the long one.
-const FEW: usize = 64;
+const FEW: usize = 32;
 
 // The answer of the marking call alone; its order is dropped.
 pub fn answer(table: &[u64], register: u64, question: u64, allowance: u64) -> Answer

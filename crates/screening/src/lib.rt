@@ -306,16 +306,16 @@ fn examine_rows(
 }
 
 // So many rows are few: short arrays do for them, which are sooner cleared than the long ones. Each row has two stamps.
-const FEW: usize = 64;
+const FEW: usize = 32;
 
-const FEW_STAMPS: usize = 128;
+const FEW_STAMPS: usize = 64;
 
 const LARGEST_STAMPS: usize = 2048;
 
 // Tests 4 to 9 of few rows.
 fn examine_few(table: &[u64], rows: &[u64]) -> Answer
     requires { ⌜ Listed (now table) (now rows) ⌝ }
-    requires { ⌜ length (now rows) ≤ 64 ⌝ }
+    requires { ⌜ length (now rows) ≤ 32 ⌝ }
     ensures { λ r. ⌜ r ≡ firstMet (rowTests (map (opAt (now (table .entry))) (now (rows .entry)))) (passed (length (now (rows .entry)))) ⌝ }
 {
     let n = rows.len();

@@ -90,12 +90,12 @@ fn writers_with(table: &[u64], rows: &[u64], firsts: &mut [u64], slots: &mut [u6
 }
 
 // So many rows are few: short arrays do for them, which are sooner cleared than the long ones.
-const FEW: usize = 64;
+const FEW: usize = 32;
 
 // The write of each of few rows.
 fn writers_few(table: &[u64], rows: &[u64], out: &mut [u64])
     requires { ⌜ Within (now table) (now rows) ⌝ }
-    requires { ⌜ length (now rows) ≤ 64 ⌝ }
+    requires { ⌜ length (now rows) ≤ 32 ⌝ }
     requires { ⌜ length (now out) ≡ length (now rows) ⌝ }
     ensures { λ _. ⌜ now (out .exit) ≡ map (writerOf (now (table .entry)) (now (rows .entry))) (now (rows .entry)) ⌝ }
 {

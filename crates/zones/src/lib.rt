@@ -164,7 +164,7 @@ pub fn by_low(
 }
 
 // So many operations are few: short arrays do for them, which are sooner cleared than the long ones.
-pub const FEW: usize = 64;
+pub const FEW: usize = 32;
 
 // The clusters of the listed writes, in their sequence, in front of what is laid; where the order begins then.
 fn lay(
@@ -279,7 +279,7 @@ fn search_few(
     order: &mut [u64],
 ) -> Search
     requires { ⌜ Sound (cols (now start) (now finish) (now writer) (now last) (now prev)) ⌝ }
-    requires { ⌜ length (now start) ≤ 64 ⌝ }
+    requires { ⌜ length (now start) ≤ 32 ⌝ }
     requires { ⌜ length (now start) ≤ length (now order) ⌝ }
     ensures { λ r. ⌜ ((allowance : ℕ) → Searched (cols (now (start .entry)) (now (finish .entry)) (now (writer .entry)) (now (last .entry)) (now (prev .entry))) allowance (λ H. untried (zones H)) (findingOf (now (order .exit)) r)) ⌝ }
 {

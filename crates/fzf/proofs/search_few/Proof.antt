@@ -39,7 +39,7 @@ search-with-requires : tie.Need-search-with-requires
 search-with-requires c κs =
     let q = c .before .before .before .before .before .before .before .before .before .before .before .before .before .before .before .pre in
     let h = q .1 .0 in
-    (q .0, (omega arith, (q .1 .1 .0, (length-take-le _ _ (omega arith), (h, (h, (h, (h, (h, (unmarked 64, (h, (shut-all 64 _ (omega (arith, q .0 .shape .long)), (h, q .1 .1 .1)))))))))))))
+    (q .0, (omega arith, (q .1 .1 .0, (length-take-le _ _ (omega arith), (h, (h, (h, (h, (h, (unmarked 32, (h, (shut-all 32 _ (omega (arith, q .0 .shape .long)), (h, q .1 .1 .1)))))))))))))
 
 same-length : tie.Need-same-length
 same-length c = search needs

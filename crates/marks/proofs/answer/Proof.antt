@@ -14,7 +14,7 @@ mark-requires c κs = search needs
 returns : tie.Need-returns
 returns c =
     let a = c .before .before .before .before .before .args in
-    answer-few (a .table .now) (a .register) (a .question) (a .allowance) 64 (omega arith) (omega arith) _ _ (c .before .mark .ensures .0)
+    answer-few (a .table .now) (a .register) (a .question) (a .allowance) 32 (omega arith) (omega arith) _ _ (c .before .mark .ensures .0)
 
 slice-aggregate-mark-2 : tie.Need-slice-aggregate-mark-2
 slice-aggregate-mark-2 c = search needs

@@ -22,7 +22,7 @@ slice-aggregate-writers-with-2 c = sym (length-take-le _ _ (omega arith))
 writers-with-requires : tie.Need-writers-with-requires
 writers-with-requires c κs =
     let p = c .before .before .before .before .before .before .pre in
-    (p .0, (omega arith, (length-take-le _ _ (omega arith), (length-take-le _ _ (omega arith), (zeros-front 64 _ (p .1 .0), omega arith)))))
+    (p .0, (omega arith, (length-take-le _ _ (omega arith), (length-take-le _ _ (omega arith), (zeros-front 32 _ (p .1 .0), omega arith)))))
 
 same-length : tie.Need-same-length
 same-length c = search needs

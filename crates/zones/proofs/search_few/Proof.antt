@@ -21,7 +21,7 @@ slice-aggregate-search-with-3 c = search needs
 
 search-with-requires : tie.Need-search-with-requires
 search-with-requires c κs =
-    let q = c .before .before .before .before .before .before .before .before .before .before .pre in (q .0, (omega arith, (length-take-le _ _ (omega arith), (q .1 .0, (q .1 .0, (unmarked 64, q .1 .1))))))
+    let q = c .before .before .before .before .before .before .before .before .before .before .pre in (q .0, (omega arith, (length-take-le _ _ (omega arith), (q .1 .0, (q .1 .0, (unmarked 32, q .1 .1))))))
 
 same-length : tie.Need-same-length
 same-length c = search needs
