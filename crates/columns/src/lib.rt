@@ -40,7 +40,7 @@ fn gather(table: &[u64], register: u64, keys: &mut [u64], rows: &mut [u64]) -> u
 }
 
 // So many places are few: a short array does for their keys, which is sooner cleared than the long one.
-const FEW: usize = 32;
+const FEW: usize = 64;
 
 // The rows of the register by rising start, at the front of the slice, with a place for the start of each row of the table; their number.
 fn rows_with(table: &[u64], register: u64, keys: &mut [u64], rows: &mut [u64]) -> usize
