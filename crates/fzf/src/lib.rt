@@ -17,7 +17,7 @@ ghost use Rattle.zones.specs.Zones.{zoneBy, Zoned, Inside};
 ghost use Rattle.freeing.specs.Freed.{Shut};
 ghost use Rattle.chunking.specs.Inner.{Behind, Hangs};
 ghost use Rattle.fzf.specs.Items.{Known, forths, backs, Cut, Lent, Poised, Chunked, Nexts};
-ghost use Rattle.fzf.specs.Next.{chunkFirst, overAt, Waiting};
+ghost use Rattle.fzf.specs.Next.{chunkFirst, overAt, Waiting, endedAt};
 
 // What a chunk gives: where its order begins at the end of the part, or that it has none; and where the backward writes behind it begin.
 struct Ordered {
@@ -213,6 +213,18 @@ fn item(
     }
 }
 
+// A search that ends here: the first m of the order, or none.
+fn ended(m: usize, kind: u64) -> Search
+    ensures { λ r. ⌜ r ≡ endedAt m kind ⌝ }
+{
+    Search {
+        from: 0,
+        to: m,
+        trials: 0,
+        kind,
+    }
+}
+
 // Joins the items by low end; the backward writes inside a run are marked, and the lent slices have a place for each operation.
 fn join(
     start: &[u64],
@@ -250,12 +262,7 @@ fn join(
     loop {
         j = chunking::skip(backwards, marks, j);
         if over(forwards.len(), backwards.len(), a, j) {
-            return Search {
-                from: 0,
-                to: m,
-                trials: 0,
-                kind: Search::FRESH,
-            };
+            return ended(m, Search::FRESH);
         }
         let next = item(
             start,
@@ -275,12 +282,7 @@ fn join(
             part,
         );
         if next.failed {
-            return Search {
-                from: 0,
-                to: 0,
-                trials: 0,
-                kind: Search::STALE,
-            };
+            return ended(0, Search::STALE);
         }
         let at = next.at;
         m = append(&part[at..], order, m);
