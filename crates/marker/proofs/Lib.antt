@@ -1,4 +1,3 @@
 -- The laws of the marking call's steps.
 pub mod Refusing
-pub mod Answering
 pub mod Working

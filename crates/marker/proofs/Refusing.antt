@@ -23,7 +23,7 @@ use Rattle.meaning.specs.Marked.{Passes}
 use Rattle.meaning.specs.Demand.{Demand}
 use Rattle.meaning.proofs.Outcomes.{met-passes}
 use Rattle.meaning.proofs.Demand.{demand-3}
-use Rattle.marker.specs.Called.{outcome}
+use Rattle.searches.specs.Replies.{outcome}
 
 module _ (size : ℕ) (h : List Op) (question : ℕ) (list : List ℕ) where
   -- what tests 1 to 9 give

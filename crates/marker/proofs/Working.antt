@@ -4,7 +4,7 @@ use Prim.Native.Nat.{ℕ, _-_, _≤_}
 use mathlib.Core.Path.{_≡_, ap, sym, _∙_}
 use mathlib.Core.List.{List}
 use native.Mathlib.Omega.{arith}
-use lib.ListN.{length, take, drop, replicate, length-map, length-append, length-replicate, take-append-drop}
+use lib.ListN.{length, take, replicate, length-map, length-replicate}
 use lib.Seq.{length-take-le}
 use Rattle.lists.proofs.Pairs.{pairs-map}
 use Rattle.lists.proofs.Cover.{no-longer-by}
@@ -25,13 +25,10 @@ use Rattle.columns.specs.Made.{Room, Made}
 use Rattle.columns.proofs.Made.{prepared-rows}
 use Rattle.history.proofs.Rows.{rows-few}
 use Rattle.columns.proofs.Sorted.{rows-listed}
-use Rattle.fzf.specs.Items.{Known}
-use Rattle.marker.specs.Called.{Asked, Fits, Replied}
-use Rattle.marker.proofs.Answering.{found-long}
-
--- a front that has its whole length is within the list
-pub front-in : (n : ℕ) (l : List ℕ) → n ≡ length (take n l) → n ≤ length l
-front-in n l e = omega (arith, e, ap length (take-append-drop n l), length-append (take n l) (drop n l))
+use Rattle.joining.specs.Items.{Known}
+use Rattle.searches.specs.Replies.{Fits, Replied}
+use Rattle.searches.proofs.Answering.{found-long}
+use Rattle.marker.specs.Called.{Asked}
 
 module _ {t : List ℕ} {register : ℕ} {rows : List ℕ} (g : Listed t register rows) where
   -- the register's operations

@@ -1,31 +1,9 @@
--- The outcome of a call, and what the steps from a search to the outcome take and leave.
+-- What the steps of the marking call take.
 -- Assumes nothing.
-use Prim.Native.Nat.{ℕ, _-_, _≤_}
+use Prim.Native.Nat.{ℕ}
 use mathlib.Core.Path.{_≡_}
 use mathlib.Core.Logic.{_⊎_}
-use mathlib.Core.List.{List}
-use lib.ListN.{length}
-use Rattle.history.specs.declared.Op.{Op}
-use Rattle.history.specs.declared.Answer.{Answer}
-use Rattle.methods.specs.Mark.{Outcome, Result, rowNumbers, judged}
-use Rattle.positions.specs.Columns.{Cols, Of}
-use Rattle.placing.specs.Searched.{Finding, Searched}
-
--- an answer and the list that it comes with
-abbrev pub outcome : Answer → List ℕ → Outcome
-outcome a l = record { answer = a; list = l }
 
 -- the question is one of the three
 abbrev pub Asked : ℕ → Type 0
 Asked question = (question ≡ 1) ⊎ (question ≡ 2) ⊎ (question ≡ 3)
-
--- an order that was found stands within its places, and is no longer than the list
-pub record Fits (r : Finding) (list : List ℕ) : Type 0 where
-  pub rising : r .kind ≡ 1 → r .from ≤ r .to
-  pub inside : r .kind ≡ 1 → r .to ≤ length (r .order)
-  pub room : r .kind ≡ 1 → r .to - r .from ≤ length list
-
--- the outcome of what was found, whatever the method and the prepared history that it was found by
-abbrev pub Replied : List ℕ → ℕ → Finding → List ℕ → Outcome → Type 0
-Replied rows allowance r list out =
-    (C : Cols) (H : List Op) (m : List Op → Result) → Of C H → rows ≡ rowNumbers H → Searched C allowance m r → out ≡ judged (length rows) allowance list (m H)

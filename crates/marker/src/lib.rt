@@ -1,27 +1,20 @@
 // The marking call: tests 1 to 10, and then the method of the question over the register's prepared history.
 use history::Answer;
 use history::Row;
-use lbt::Walked;
-use placing::Search;
 ghost use mathlib.Core.Path.{_≡_};
-ghost use mathlib.Core.Logic.{_≢_};
 ghost use mathlib.Core.List.{List};
 ghost use Prim.Native.Nat.{ℕ, _≤_};
 ghost use lib.ListN.{length};
 ghost use Rattle.history.specs.Table.{history, Alike, largestCount, rowCount};
 ghost use Rattle.history.specs.Answer.{firstMet, passed};
 ghost use Rattle.methods.specs.Prepared.{prepared};
-ghost use Rattle.methods.specs.Lbt.{lbt};
-ghost use Rattle.methods.specs.Mark.{noQuestion, walked, method, judged, markTests, mark};
+ghost use Rattle.methods.specs.Mark.{noQuestion, method, judged, markTests, mark};
 ghost use Rattle.meaning.specs.Marked.{Passes};
 ghost use Rattle.meaning.specs.Demand.{Demand};
-ghost use Rattle.positions.specs.Columns.{cols, Sound};
-ghost use Rattle.placing.specs.Searched.{findingOf, Searched};
-ghost use Rattle.lbt.specs.Rounds.{findingIn};
 ghost use Rattle.columns.specs.Rows.{Listed};
 ghost use Rattle.columns.specs.Made.{Room};
-ghost use Rattle.fzf.specs.Items.{Known};
-ghost use Rattle.marker.specs.Called.{outcome, Asked, Fits, Replied};
+ghost use Rattle.searches.specs.Replies.{outcome};
+ghost use Rattle.marker.specs.Called.{Asked};
 
 const ZONES: u64 = 1;
 
@@ -59,120 +52,6 @@ fn refusal(table: &[u64], register: u64, question: u64, room: usize) -> Answer
     nine
 }
 
-// LBT, with the writes by falling finish in a slice that has a place for each operation.
-fn walk_with(
-    start: &[u64],
-    finish: &[u64],
-    writer: &[u64],
-    last: &[u64],
-    prev: &[u64],
-    allowance: u64,
-    falling: &mut [u64],
-) -> Walked
-    requires { ⌜ Sound (cols (now start) (now finish) (now writer) (now last) (now prev)) ⌝ }
-    requires { ⌜ length (now start) ≤ largestCount ⌝ }
-    requires { ⌜ length (now writer) ≤ length (now falling) ⌝ }
-    ensures { λ r. ⌜ Searched (cols (now (start .entry)) (now (finish .entry)) (now (writer .entry)) (now (last .entry)) (now (prev .entry))) allowance (λ H. walked (lbt H)) (findingIn r) ⌝ }
-{
-    let m = columns::falls(finish, writer, falling);
-    lbt::search(start, finish, writer, last, prev, &falling[..m], allowance)
-}
-
-// LBT.
-fn walk(
-    start: &[u64],
-    finish: &[u64],
-    writer: &[u64],
-    last: &[u64],
-    prev: &[u64],
-    allowance: u64,
-) -> Walked
-    requires { ⌜ Sound (cols (now start) (now finish) (now writer) (now last) (now prev)) ⌝ }
-    requires { ⌜ length (now start) ≤ largestCount ⌝ }
-    ensures { λ r. ⌜ Searched (cols (now (start .entry)) (now (finish .entry)) (now (writer .entry)) (now (last .entry)) (now (prev .entry))) allowance (λ H. walked (lbt H)) (findingIn r) ⌝ }
-{
-    if writer.len() <= FEW {
-        let mut few = [0u64; FEW];
-        return walk_with(start, finish, writer, last, prev, allowance, &mut few);
-    }
-    let mut falling = [0u64; Row::LARGEST_COUNT];
-    walk_with(start, finish, writer, last, prev, allowance, &mut falling)
-}
-
-// The search by zones, or by FZF, into a lent order.
-fn search(
-    start: &[u64],
-    finish: &[u64],
-    writer: &[u64],
-    last: &[u64],
-    prev: &[u64],
-    question: u64,
-    order: &mut [u64],
-) -> Search
-    requires { ⌜ Sound (cols (now start) (now finish) (now writer) (now last) (now prev)) ⌝ }
-    requires { ⌜ length (now start) ≤ largestCount ⌝ }
-    requires { ⌜ Known (cols (now start) (now finish) (now writer) (now last) (now prev)) ⌝ }
-    requires { ⌜ question ≢ 2 ⌝ }
-    requires { ⌜ length (now start) ≤ length (now order) ⌝ }
-    ensures { λ r. ⌜ ((allowance : ℕ) → Searched (cols (now (start .entry)) (now (finish .entry)) (now (writer .entry)) (now (last .entry)) (now (prev .entry))) allowance (method question) (findingOf (now (order .exit)) r)) ⌝ }
-{
-    if question == ZONES {
-        return zones::search(start, finish, writer, last, prev, order);
-    }
-    fzf::search(start, finish, writer, last, prev, order)
-}
-
-// The answer to what was found, and the order's rows at the front of the list where it is fresh.
-fn answer(found: Search, order: &[u64], rows: &[u64], allowance: u64, list: &mut [u64]) -> Answer
-    requires { ⌜ Fits (findingOf (now order) found) (now list) ⌝ }
-    ensures { λ r. ⌜ Replied (now (rows .entry)) allowance (findingOf (now (order .entry)) found) (now (list .entry)) (outcome r (now (list .exit))) ⌝ }
-{
-    let kind = found.kind;
-    let trials = found.trials;
-    let count = rows.len() as u64;
-    if kind == Search::STALE {
-        return Answer {
-            code: Answer::STALE,
-            row: 0,
-            rows: count,
-            trials,
-        };
-    }
-    if kind != Search::FRESH {
-        return Answer {
-            code: Answer::SPENT,
-            row: 0,
-            rows: 0,
-            trials: allowance,
-        };
-    }
-    let from = found.from;
-    let to = found.to;
-    let m = to - from;
-    columns::rows_at(rows, &order[from..to], &mut list[..m]);
-    Answer {
-        code: Answer::FRESH,
-        row: 0,
-        rows: count,
-        trials,
-    }
-}
-
-// The answer to what LBT found, in the walk's own order.
-fn answer_walk(found: Walked, rows: &[u64], allowance: u64, list: &mut [u64]) -> Answer
-    requires { ⌜ Fits (findingIn found) (now list) ⌝ }
-    ensures { λ r. ⌜ Replied (now (rows .entry)) allowance (findingIn found) (now (list .entry)) (outcome r (now (list .exit))) ⌝ }
-{
-    let end = Search {
-        from: found.from,
-        to: found.to,
-        trials: found.trials,
-        kind: found.kind,
-    };
-    let order = found.order;
-    answer(end, &order, rows, allowance, list)
-}
-
 // The mark of a screened register, from its rows by rising start and a place for each in the other slices.
 fn work(
     table: &[u64],
@@ -197,11 +76,11 @@ fn work(
 {
     columns::fill(table, rows, start, finish, writer, last, prev);
     if question == LBT {
-        let walked = walk(start, finish, writer, last, prev, allowance);
-        return answer_walk(walked, rows, allowance, list);
+        let walked = searches::walk(start, finish, writer, last, prev, allowance);
+        return searches::answer_walk(walked, rows, allowance, list);
     }
-    let found = search(start, finish, writer, last, prev, question, order);
-    answer(found, order, rows, allowance, list)
+    let found = searches::search(start, finish, writer, last, prev, question, order);
+    searches::answer(found, order, rows, allowance, list)
 }
 
 // The mark of a screened register of few rows, from these by rising start.

@@ -1,4 +1,4 @@
-// Texts at the front of a lent buffer, and the line of a refused file.
+// Texts at the front of a lent buffer: the line of a refused file, and a text that is whole already.
 use history::Answer;
 ghost use mathlib.Core.List.{_++_};
 ghost use Prim.Native.Nat.{_+_, _<_, _^_};
@@ -26,4 +26,15 @@ pub fn refusal(answer: Answer, out: &mut [u8]) -> Answer
 {
     let numbers = [answer.code, answer.row];
     worded(b"refused,", &numbers, out)
+}
+
+// Puts a whole text at the front of the buffer; a buffer too short for it is left as it was.
+pub fn hand_out(text: &[u8], out: &mut [u8]) -> Answer
+    ensures { λ r. ⌜ Printed (now (text .entry)) (now (out .entry)) r (now (out .exit)) ⌝ }
+{
+    if out.len() < text.len() {
+        return Answer::refused(Answer::SHORT_LIST, 0);
+    }
+    text::put_bytes(text, out, 0);
+    Answer::passed(text.len() as u64)
 }

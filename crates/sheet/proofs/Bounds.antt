@@ -1,16 +1,15 @@
 -- How long the parts of a sheet are, whatever the numbers: the programs' buffers hold the whole.
 -- Assumes nothing.
-use Prim.Native.Nat.{ℕ, _+_, _*_, _≤_}
+use Prim.Native.Nat.{ℕ, _+_, _≤_}
 use mathlib.Core.Path.{_≡_, refl, sym, ap, _∙_}
-use mathlib.Core.Bool.{Bool, true, false, cond}
-use mathlib.Core.List.{List, [], _∷_, _++_}
+use mathlib.Core.Bool.{Bool, true, false}
+use mathlib.Core.List.{List, _∷_, _++_}
 use native.Mathlib.Omega.{arith}
 use lib.Dec.{eqb}
-use lib.ListN.{length, take, replicate, length-append, length-take, length-replicate}
+use lib.ListN.{length, replicate, length-append, length-replicate}
 use lib.Seq.{length-front, length-take-le}
 use borrow.Author.Tests.{eqb-true, eqb-false}
 use Rattle.history.specs.declared.Op.{Op}
-use Rattle.history.specs.declared.Answer.{Answer}
 use Rattle.history.specs.Table.{history, largestCount}
 use Rattle.history.specs.Answer.{numbers}
 use Rattle.methods.specs.Mark.{Outcome, mark}
@@ -22,46 +21,16 @@ use Rattle.meaning.proofs.Demand.{demand-3}
 use Rattle.meaning.proofs.Outcomes.{marked?}
 use Rattle.preparation.proofs.Rows.{history-rows}
 use Rattle.text.specs.Decimal.{line}
-use Rattle.text.proofs.Joins.{line-length}
 use Rattle.printing.proofs.Filing.{text-bound}
-use Rattle.sheet.specs.Sheet.{heading, outcomeTo, answerLine, orderWord, orderLine, answersOf, ordersOf, pageOf, sheetOf, checkWord, checkLine, examOf}
-use Rattle.sheet.specs.Pages.{places, room, orderOf}
+use Rattle.lines.specs.Lines.{answersOf, checkLine}
+use Rattle.lines.proofs.Bounds.{check-bound, order-of-bound, answers-bound}
+use Rattle.sheet.specs.Sheet.{heading, outcomeTo, orderLine, ordersOf, pageOf, sheetOf, examOf}
 use Rattle.sheet.specs.Files.{benchOf, examFile}
 use Rattle.sheet.proofs.Parts.{order-is}
 
--- room for a line, by the count of its numbers
-pub line-room : (l : List ℕ) (at size : ℕ) → at + (21 * length l + 1) ≤ size → at + length (line l) ≤ size
-line-room l at size h = omega (arith, line-length l)
-
--- a line of an answer: five numbers
-pub answer-bound : (question : ℕ) (a : Answer) → length (answerLine question a) ≤ 106
-unfolding answerLine
-answer-bound question a = omega (arith, line-length (question ∷ numbers a))
-
--- a line of a check: a word and two numbers
-pub check-bound : (a : Answer) → length (checkLine a) ≤ 49
-unfolding checkLine
-check-bound a =
-    omega (arith, length-append checkWord (line (a .code ∷ a .row ∷ [])), line-length (a .code ∷ a .row ∷ []))
-
--- a line of an order: a word and at most the numbers of a page
-pub order-of-bound : (a : Answer) (page : List ℕ) → length page ≤ places → length (orderOf a page) ≤ 21532
-unfolding orderOf
-order-of-bound a page h = go (eqb (a .code) 0)
-  where
-    go : (b : Bool) → length (cond b (orderWord ++ line (take (a .rows + 1) page)) []) ≤ 21532
-    go true =
-        omega (arith, length-append orderWord (line (take (a .rows + 1) page)), line-length (take (a .rows + 1) page), length-take (a .rows + 1) page, h)
-    go false = omega arith
-
+-- a line of an order, and those of three
 pub order-bound : (question : ℕ) (o : Outcome) → length (o .list) ≤ largestCount → length (orderLine question o) ≤ 21532
 order-bound question o h = rw (← order-is question o) (order-of-bound (o .answer) (question ∷ o .list) (omega arith))
-
--- the lines of three answers, and of three orders
-pub answers-bound : (one two three : Answer) → length (answersOf one two three) ≤ 318
-unfolding answersOf
-answers-bound one two three =
-    omega (arith, length-append (answerLine 1 one ++ answerLine 2 two) (answerLine 3 three), length-append (answerLine 1 one) (answerLine 2 two), answer-bound 1 one, answer-bound 2 two, answer-bound 3 three)
 
 pub orders-bound : (one two three : Outcome) → length (one .list) ≤ largestCount → length (two .list) ≤ largestCount → length (three .list) ≤ largestCount
     → length (ordersOf one two three) ≤ 64596

@@ -10,9 +10,10 @@ use borrow.Rule.Slice.PartMut.{midOf, putMid}
 use Rattle.history.specs.declared.Answer.{Answer}
 use Rattle.history.specs.Table.{largestCount}
 use Rattle.methods.specs.Mark.{Outcome, mark}
-use Rattle.marker.specs.Called.{outcome}
+use Rattle.searches.specs.Replies.{outcome}
 use Rattle.sheet.specs.Sheet.{outcomeTo}
-use Rattle.sheet.specs.Pages.{places, Page}
+use Rattle.lines.specs.Lines.{places}
+use Rattle.sheet.specs.Pages.{Page}
 use Rattle.sheet.proofs.Bounds.{outcome-long, outcome-fits}
 
 -- the page with the number in its first place, and the places behind it

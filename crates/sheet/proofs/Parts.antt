@@ -1,29 +1,16 @@
--- A text put part by part, taken out of its buffer again; and the line of an order from its page.
+-- The line of an order from its page, the parts of a sheet one behind the other, and the same text printed.
 -- Assumes nothing.
-use Prim.Native.Nat.{ℕ, _+_, _≤_}
-use mathlib.Core.Path.{_≡_, refl, sym, ap, _∙_}
+use Prim.Native.Nat.{ℕ}
+use mathlib.Core.Path.{_≡_, refl}
 use mathlib.Core.List.{List, _∷_, _++_}
 use native.Mathlib.Numerals.{add-one}
-use native.Mathlib.Omega.{arith}
-use lib.ListN.{length, take, drop, length-append}
-use lib.Seq.{sets, take-at}
-use Rattle.lists.proofs.Stores.{sets-behind, sets-front}
 use Rattle.history.specs.declared.Answer.{Answer}
 use Rattle.methods.specs.Mark.{Outcome}
 use Rattle.printing.specs.Texts.{Printed}
-use Rattle.sheet.specs.Sheet.{heading, orderLine, answersOf, ordersOf, pageOf}
-use Rattle.sheet.specs.Pages.{Put, Page, orderOf}
-
--- a second part behind the first
-pub put-then : (xs ys old : List ℕ) (at : ℕ) {mid new : List ℕ} {next end : ℕ} → Put xs old at next mid → Put ys mid next end new
-    → Put (xs ++ ys) old at end new
-put-then xs ys old at {mid} {new} {next} {end} p q =
-    (omega (arith, p .0, q .0, length-append xs ys), q .1 ∙ ap (λ (l : List ℕ). sets l next ys) (p .1) ∙ sets-behind xs ys old at next (sym (p .0)))
-
--- a text at the front of its buffer is what is taken from there
-pub put-taken : (text old : List ℕ) {new : List ℕ} {n : ℕ} → Put text old 0 n new → length text ≤ length old → take n new ≡ text
-put-taken text old {new} {n} p h =
-    ap (take n) (p .1 ∙ sets-front text old h) ∙ take-at text (drop (length text) old) n (omega (arith, p .0))
+use Rattle.lines.specs.Lines.{Put, answersOf, orderOf}
+use Rattle.lines.proofs.Parts.{put-then}
+use Rattle.sheet.specs.Sheet.{heading, orderLine, ordersOf, pageOf}
+use Rattle.sheet.specs.Pages.{Page}
 
 -- the line of an order, by the outcome and by its page
 pub order-is : (question : ℕ) (o : Outcome) → orderOf (o .answer) (question ∷ o .list) ≡ orderLine question o

@@ -7,14 +7,13 @@ use mathlib.Core.Bool.{cond}
 use mathlib.Core.List.{List, [], _∷_, _++_}
 use lib.Dec.{eqb}
 use lib.ListN.{take, replicate}
-use Rattle.history.specs.declared.Answer.{Answer}
 use Rattle.history.specs.Table.{largestCount}
-use Rattle.history.specs.Answer.{numbers}
 use Rattle.methods.specs.Mark.{Outcome, mark}
 use Rattle.meaning.specs.Demand.{Demand}
 use Rattle.orders.specs.Check.{check, Accepted}
 use Rattle.marks.specs.Marks.{mostTrials}
 use Rattle.text.specs.Decimal.{line}
+use Rattle.lines.specs.Lines.{answersOf, orderWord, checkLine}
 
 -- the heading line, in ASCII: the number of the question, and the four fields of an answer by their names
 abbrev pub heading : List ℕ
@@ -30,21 +29,11 @@ heading =
 unfoldable pub outcomeTo : List ℕ → ℕ → ℕ → ℕ → Outcome
 outcomeTo t register question allowance = mark t register question allowance (replicate largestCount 0)
 
--- a line of the question's number and the four fields of its answer
-unfoldable pub answerLine : ℕ → Answer → List ℕ
-answerLine question a = line (question ∷ numbers a)
-
--- "order," in ASCII, and the line of an order, which only a fresh mark has: behind the question's number the rows at the front of the list
-abbrev pub orderWord : List ℕ
-orderWord = 111 ∷ 114 ∷ 100 ∷ 101 ∷ 114 ∷ 44 ∷ []
-
+-- the line of an order, which only a fresh mark has: behind the question's number the rows at the front of the list
 unfoldable pub orderLine : ℕ → Outcome → List ℕ
 orderLine question o = cond (eqb (o .answer .code) 0) (orderWord ++ line (question ∷ take (o .answer .rows) (o .list))) []
 
--- the lines of questions 1, 2 and 3
-unfoldable pub answersOf : Answer → Answer → Answer → List ℕ
-answersOf one two three = answerLine 1 one ++ answerLine 2 two ++ answerLine 3 three
-
+-- the orders of questions 1, 2 and 3
 unfoldable pub ordersOf : Outcome → Outcome → Outcome → List ℕ
 ordersOf one two three = orderLine 1 one ++ orderLine 2 two ++ orderLine 3 three
 
@@ -61,13 +50,6 @@ sheetOf t register allowance =
 abbrev pub Shown : List ℕ → ℕ → ℕ → Type 0
 Shown t register allowance =
     (question : ℕ) → Demand t register question allowance (replicate largestCount 0) (outcomeTo t register question allowance)
-
--- "check," in ASCII, and the line of a check of an order: its code and its row field
-abbrev pub checkWord : List ℕ
-checkWord = 99 ∷ 104 ∷ 101 ∷ 99 ∷ 107 ∷ 44 ∷ []
-
-unfoldable pub checkLine : Answer → List ℕ
-checkLine a = checkWord ++ line (a .code ∷ a .row ∷ [])
 
 -- THE EXAM: the sheet, with an allowance that is enough for every register, and the check of a given order
 unfoldable pub examOf : List ℕ → ℕ → ℕ → List ℕ → List ℕ

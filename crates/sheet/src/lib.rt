@@ -2,14 +2,14 @@
 use history::Answer;
 use history::Row;
 ghost use mathlib.Core.Path.{_≡_};
-ghost use Prim.Native.Nat.{_+_, _≤_, _<_};
 ghost use lib.ListN.{length, replicate};
 ghost use Rattle.files.specs.Records.{tableOf};
 ghost use Rattle.marks.specs.Marks.{mostTrials};
 ghost use Rattle.printing.specs.Texts.{Printed};
-ghost use Rattle.sheet.specs.Sheet.{outcomeTo, answerLine, answersOf, sheetOf, Shown, checkLine, examOf, Told};
+ghost use Rattle.lines.specs.Lines.{Put, places};
+ghost use Rattle.sheet.specs.Sheet.{outcomeTo, sheetOf, Shown, examOf, Told};
 ghost use Rattle.sheet.specs.Files.{benchOf, examFile};
-ghost use Rattle.sheet.specs.Pages.{Put, places, room, Page, orderOf};
+ghost use Rattle.sheet.specs.Pages.{room, Page};
 
 // A question and the list of 1,024 places behind it.
 const PLACES: usize = 1025;
@@ -26,46 +26,6 @@ fn ask(table: &[u64], register: u64, question: u64, allowance: u64, page: &mut [
     marker::mark(table, register, question, allowance, &mut page[1..])
 }
 
-// Writes the line of a question's answer from `at` on; the place behind it.
-fn put_answer(question: u64, answer: Answer, out: &mut [u8], at: usize) -> usize
-    requires { ⌜ at + 106 ≤ length (now out) ⌝ }
-    ensures { λ r. ⌜ Put (answerLine question answer) (now (out .entry)) at r (now (out .exit)) ⌝ }
-{
-    let numbers = [
-        question,
-        answer.code,
-        answer.row,
-        answer.rows,
-        answer.trials,
-    ];
-    text::put_line(&numbers, out, at)
-}
-
-// Writes the lines of the three answers.
-fn put_answers(one: Answer, two: Answer, three: Answer, out: &mut [u8], at: usize) -> usize
-    requires { ⌜ at + 318 ≤ length (now out) ⌝ }
-    ensures { λ r. ⌜ Put (answersOf one two three) (now (out .entry)) at r (now (out .exit)) ⌝ }
-{
-    let first = put_answer(1, one, out, at);
-    let second = put_answer(2, two, out, first);
-    put_answer(3, three, out, second)
-}
-
-// Writes the line of a fresh mark's order, from the page; nothing of another mark.
-fn put_order(answer: Answer, page: &[u64], out: &mut [u8], at: usize) -> usize
-    requires { ⌜ at + 21532 ≤ length (now out) ⌝ }
-    requires { ⌜ length (now page) ≡ places ⌝ }
-    requires { ⌜ (answer .code ≡ 0 → answer .rows < places) ⌝ }
-    ensures { λ r. ⌜ Put (orderOf answer (now (page .entry))) (now (out .entry)) at r (now (out .exit)) ⌝ }
-{
-    if answer.code != Answer::FRESH {
-        return at;
-    }
-    let next = text::put_bytes(b"order,", out, at);
-    let end = answer.rows as usize + 1;
-    text::put_line(&page[..end], out, next)
-}
-
 // Marks the register by the three questions, and writes the sheet at the front of a buffer; its length.
 fn put_sheet(table: &[u64], register: u64, allowance: u64, out: &mut [u8]) -> usize
     requires { ⌜ length (now out) ≡ room ⌝ }
@@ -78,31 +38,10 @@ fn put_sheet(table: &[u64], register: u64, allowance: u64, out: &mut [u8]) -> us
     let lbt = ask(table, register, 2, allowance, &mut two);
     let fzf = ask(table, register, 3, allowance, &mut three);
     let headed = text::put_bytes(b"question,code,row,rows,trials\n", out, 0);
-    let answered = put_answers(zones, lbt, fzf, out, headed);
-    let first = put_order(zones, &one, out, answered);
-    let second = put_order(lbt, &two, out, first);
-    put_order(fzf, &three, out, second)
-}
-
-// Writes the line of a check of an order.
-fn put_check(answer: Answer, out: &mut [u8], at: usize) -> usize
-    requires { ⌜ at + 49 ≤ length (now out) ⌝ }
-    ensures { λ r. ⌜ Put (checkLine answer) (now (out .entry)) at r (now (out .exit)) ⌝ }
-{
-    let numbers = [answer.code, answer.row];
-    let next = text::put_bytes(b"check,", out, at);
-    text::put_line(&numbers, out, next)
-}
-
-// Puts a whole text at the front of the buffer; a buffer too short for it is left as it was.
-fn hand_out(text: &[u8], out: &mut [u8]) -> Answer
-    ensures { λ r. ⌜ Printed (now (text .entry)) (now (out .entry)) r (now (out .exit)) ⌝ }
-{
-    if out.len() < text.len() {
-        return Answer::refused(Answer::SHORT_LIST, 0);
-    }
-    text::put_bytes(text, out, 0);
-    Answer::passed(text.len() as u64)
+    let answered = lines::put_answers(zones, lbt, fzf, out, headed);
+    let first = lines::put_order(zones, &one, out, answered);
+    let second = lines::put_order(lbt, &two, out, first);
+    lines::put_order(fzf, &three, out, second)
 }
 
 // The sheet of a register, with an allowance for LBT.
@@ -112,7 +51,7 @@ pub fn sheet(table: &[u64], register: u64, allowance: u64, out: &mut [u8]) -> An
 {
     let mut whole = [0u8; ROOM];
     let length = put_sheet(table, register, allowance, &mut whole);
-    hand_out(&whole[..length], out)
+    printing::hand_out(&whole[..length], out)
 }
 
 // The sheet of a register, and the check of an order of it.
@@ -124,8 +63,8 @@ pub fn checked(table: &[u64], register: u64, k: u64, list: &[u64], out: &mut [u8
     let mut whole = [0u8; ROOM];
     let next = put_sheet(table, register, marks::MOST_TRIALS, &mut whole);
     let answer = orders::check(table, register, k, list);
-    let length = put_check(answer, &mut whole, next);
-    hand_out(&whole[..length], out)
+    let length = lines::put_check(answer, &mut whole, next);
+    printing::hand_out(&whole[..length], out)
 }
 
 // The sheet of a register of a history file, or the line of a refused file.

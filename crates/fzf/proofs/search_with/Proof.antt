@@ -9,7 +9,7 @@ use Rattle.zones.proofs.LastStarts.{sound-ends}
 use Rattle.zones.proofs.Zone.{lates-zoned}
 use Rattle.zones.proofs.ByLow.{by-low-inside, by-low-length}
 use Rattle.chunking.specs.Chunks.{faces}
-use Rattle.fzf.proofs.Chunks.{late-long}
+use Rattle.joining.proofs.Chunks.{late-long}
 use borrow.Author.Needs.{needs}
 use Rattle.fzf.proofs.search_with.Statement.{statement}
 use Rattle.fzf.proofs.search_with.Tie as tie

@@ -2,7 +2,7 @@
 use mathlib.Core.Path.{ap}
 use native.Mathlib.Omega.{arith}
 use lib.ListN.{length}
-use Rattle.fzf.proofs.Chunks.{sides-few, both-sides}
+use Rattle.joining.proofs.Chunks.{sides-few, both-sides}
 use borrow.Author.Needs.{needs}
 use Rattle.fzf.proofs.sides.Statement.{statement}
 use Rattle.fzf.proofs.sides.Tie as tie

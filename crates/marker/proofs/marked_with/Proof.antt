@@ -1,5 +1,6 @@
 use native.Mathlib.Omega.{arith}
-use Rattle.marker.proofs.Working.{few, front, front-in, listed, rows-take}
+use Rattle.searches.proofs.Answering.{front-in}
+use Rattle.marker.proofs.Working.{few, front, listed, rows-take}
 use borrow.Author.Needs.{needs}
 use Rattle.marker.proofs.marked_with.Statement.{statement}
 use Rattle.marker.proofs.marked_with.Tie as tie

@@ -4,7 +4,7 @@ use mathlib.Core.Path.{ap, _∙_}
 use native.Mathlib.Omega.{arith}
 use lib.ListN.{length, length-set, length-replicate}
 use borrow.Author.Needs.{needs}
-use Rattle.sheet.specs.Pages.{places}
+use Rattle.lines.specs.Lines.{places}
 use Rattle.sheet.proofs.Making.{made}
 use Rattle.sheet.proofs.ask.Statement.{statement}
 use Rattle.sheet.proofs.ask.Tie as tie

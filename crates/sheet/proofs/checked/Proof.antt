@@ -8,10 +8,13 @@ use lib.Seq.{length-take-le}
 use borrow.Author.Needs.{needs}
 use Rattle.marks.specs.Marks.{mostTrials}
 use Rattle.orders.specs.Check.{check}
-use Rattle.sheet.specs.Sheet.{sheetOf, checkLine, examOf}
+use Rattle.lines.specs.Lines.{checkLine}
+use Rattle.sheet.specs.Sheet.{sheetOf, examOf}
 use Rattle.sheet.specs.Pages.{room}
-use Rattle.sheet.proofs.Parts.{put-then, put-taken, same-printed}
-use Rattle.sheet.proofs.Bounds.{sheet-bound, check-bound, exam-bound}
+use Rattle.lines.proofs.Parts.{put-then, put-taken}
+use Rattle.sheet.proofs.Parts.{same-printed}
+use Rattle.lines.proofs.Bounds.{check-bound}
+use Rattle.sheet.proofs.Bounds.{sheet-bound, exam-bound}
 use Rattle.sheet.proofs.checked.Statement.{statement}
 use Rattle.sheet.proofs.checked.Tie as tie
 

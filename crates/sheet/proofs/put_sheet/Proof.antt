@@ -3,7 +3,7 @@ use native.Mathlib.Omega.{arith}
 use borrow.Author.Needs.{needs}
 use Rattle.sheet.specs.Sheet.{sheetOf}
 use Rattle.sheet.proofs.Parts.{page-put}
-use Rattle.sheet.proofs.Bounds.{answers-bound, order-of-bound}
+use Rattle.lines.proofs.Bounds.{answers-bound, order-of-bound}
 use Rattle.sheet.proofs.put_sheet.Statement.{statement}
 use Rattle.sheet.proofs.put_sheet.Tie as tie
 

@@ -8,7 +8,8 @@ use lib.Seq.{length-take-le}
 use borrow.Author.Needs.{needs}
 use Rattle.sheet.specs.Sheet.{sheetOf}
 use Rattle.sheet.specs.Pages.{room}
-use Rattle.sheet.proofs.Parts.{put-taken, same-printed}
+use Rattle.lines.proofs.Parts.{put-taken}
+use Rattle.sheet.proofs.Parts.{same-printed}
 use Rattle.sheet.proofs.Bounds.{sheet-bound}
 use Rattle.sheet.proofs.sheet.Statement.{statement}
 use Rattle.sheet.proofs.sheet.Tie as tie

@@ -1,0 +1,2 @@
+-- The lines of a sheet.
+pub mod Lines

@@ -1,0 +1,32 @@
+-- The search of each question is one by the method of the question.
+use Rattle.methods.specs.Zones.{zones}
+use Rattle.methods.specs.Fzf.{fzf}
+use Rattle.methods.specs.Mark.{untried}
+use Rattle.searches.proofs.Answering.{searched-by, method-one, method-three}
+use borrow.Author.Needs.{needs}
+use Rattle.searches.proofs.search.Statement.{statement}
+use Rattle.searches.proofs.search.Tie as tie
+
+search-requires : tie.Need-search-requires
+search-requires c κs = search needs
+
+same-length : tie.Need-same-length
+same-length c = search needs
+
+returns : tie.Need-returns
+returns c = λ a. searched-by (λ H. untried (zones H)) _ (method-one _ (c .before .before .before .before .if1 .taken)) (c .before .before .search .ensures a)
+
+search-requires-2 : tie.Need-search-requires-2
+search-requires-2 c κs = search needs
+
+same-length-2 : tie.Need-same-length-2
+same-length-2 c = search needs
+
+returns-2 : tie.Need-returns-2
+returns-2 c =
+    λ a. searched-by (λ H. untried (fzf H)) _ (method-three _ (c .before .before .before .before .if1 .left) (c .before .before .before .before .before .before .before .before .before .before .before .pre .1 .1 .1 .0)) (c .before .before .search2 .ensures a)
+
+pub search-spec : {M : Type 1} → statement M
+search-spec =
+    tie.close
+    (tie.spec search-requires same-length returns search-requires-2 same-length-2 returns-2)

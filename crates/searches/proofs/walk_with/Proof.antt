@@ -1,0 +1,39 @@
+-- The writes by falling finish are those of the columns.
+use lib.ListN.{length}
+use mathlib.Core.Path.{sym, ap, _∙_}
+use Rattle.columns.proofs.Sorted.{falls-finish}
+use Rattle.searches.proofs.Answering.{front-in}
+use borrow.Author.Needs.{needs}
+use Rattle.searches.proofs.walk_with.Statement.{statement}
+use Rattle.searches.proofs.walk_with.Tie as tie
+
+falls-requires : tie.Need-falls-requires
+falls-requires c κs = search needs
+
+slice-reshare-prefix-search : tie.Need-slice-reshare-prefix-search
+slice-reshare-prefix-search c = front-in _ _ (c .before .before .falls .ensures .0 ∙ sym (ap length (c .before .before .falls .ensures .1)))
+
+slice-aggregate-search : tie.Need-slice-aggregate-search
+slice-aggregate-search c = c .before .before .before .falls .ensures .0 ∙ sym (ap length (c .before .before .before .falls .ensures .1))
+
+search-requires : tie.Need-search-requires
+search-requires c κs =
+    let p = c .before .before .before .before .before .before .before .before .before .before .before .pre in
+    (p .0, (c .before .before .before .falls .ensures .1 ∙ falls-finish _ (p .0 .shape .long), p .1 .0))
+
+same-length : tie.Need-same-length
+same-length c = search needs
+
+returns : tie.Need-returns
+returns c = search needs
+
+pub walk-with-spec : {M : Type 1} → statement M
+walk-with-spec =
+    tie.close
+    (tie.spec
+    falls-requires
+    slice-reshare-prefix-search
+    slice-aggregate-search
+    search-requires
+    same-length
+    returns)

@@ -1,0 +1,2 @@
+-- From a search to the outcome.
+pub mod Replies
