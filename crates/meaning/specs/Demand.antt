@@ -8,7 +8,7 @@ use mathlib.Core.List.{List, _++_}
 use lib.ListN.{length, drop}
 use Rattle.history.specs.Table.{history}
 use Rattle.history.specs.Answer.{fresh, spent, stale, number}
-use Rattle.orders.specs.Order.{Atomic}
+use Rattle.atomicity.specs.Order.{Atomic}
 use Rattle.methods.specs.Mark.{Outcome, kOf, mark}
 use Rattle.meaning.specs.Marked.{Passes, Enough, trialsOf}
 

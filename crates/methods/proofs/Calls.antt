@@ -7,8 +7,8 @@ use Rattle.lists.specs.Sorts.{insert, sort}
 use Rattle.history.specs.Table.{opAt, bears, rowsOf, history, isWrite, isRead, precedes, dictates}
 use Rattle.history.specs.Answer.{firstMet}
 use Rattle.history.specs.Screen.{wrongKind, wrongSpan, shares, sharesStamp, repeats, rewrites, dictatedBy, unwritten, precedesWrite, tooEarly, tests}
-use Rattle.orders.specs.Order.{writesBetween}
-use Rattle.orders.specs.Check.{sameRow, precedesAt, nearAt, isRow, misfits, late, tooFar, missing, orderTests, check}
+use Rattle.atomicity.specs.Order.{writesBetween}
+use Rattle.atomicity.specs.Check.{sameRow, precedesAt, nearAt, isRow, misfits, late, tooFar, missing, orderTests, check}
 use Rattle.methods.specs.Extremes.{least, greatest}
 use Rattle.methods.specs.Prepared.{byStart, shortened, newFinish, prepared}
 use Rattle.methods.specs.Zones.{firstFinish, lastStart, clear, isOne, inOrder, zones}

@@ -6,7 +6,7 @@ use mathlib.Core.List.{List, map}
 use Rattle.history.specs.declared.Op.{Op}
 use Rattle.history.specs.Answer.{Code, Test}
 use Rattle.history.specs.Screen.{tests}
-use Rattle.orders.specs.Check.{orderTests, checkTests}
+use Rattle.atomicity.specs.Check.{orderTests, checkTests}
 use Rattle.methods.specs.Mark.{markTests}
 use Rattle.history.specs.Sequences.{markSequence, checkSequence}
 

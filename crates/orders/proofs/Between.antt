@@ -12,7 +12,7 @@ use lib.Seq.{drop-cons, getD-set-same, getD-set-other}
 use Rattle.lists.specs.Lists.{put, keep}
 use Rattle.history.specs.Table.{opAt, isWrite}
 use Rattle.history.proofs.Searches.{oneIf, one-if-small}
-use Rattle.orders.specs.Order.{writesBetween}
+use Rattle.atomicity.specs.Order.{writesBetween}
 use Rattle.orders.specs.Faults.{writesBefore, Counted}
 
 -- the writes from position j on and before p

@@ -18,7 +18,7 @@ use Rattle.history.specs.Screen.{tests, examined, Screened}
 use Rattle.history.proofs.Refusals.{coded-append, orTest, chained, chained-append, chained-refused, met-chained}
 use Rattle.history.proofs.Screened.{tests-coded, examined-exactly}
 use Rattle.orders.specs.declared.Fault.the-variants.{Misfit, Late, TooFar}
-use Rattle.orders.specs.Check.{orderTests, check, Accepted}
+use Rattle.atomicity.specs.Check.{orderTests, check, Accepted}
 use Rattle.orders.specs.Faults.{condition, positionTest, missingTest, Ordered}
 use Rattle.orders.proofs.Exact.{total-holds, order-coded, check-exactly}
 use Rattle.orders.proofs.Same.{alike-check}

@@ -22,8 +22,8 @@ use Rattle.history.proofs.Operations.{told-read}
 use Rattle.history.proofs.Rows.{in-rows, rows-in, rows-rise}
 use Rattle.history.proofs.Refusals.{NoFault, Coded, coded-append, no-fault-append, no-fault-left, no-fault-right, code-no-fault, no-fault-answer}
 use Rattle.history.proofs.Screened.{tests-coded, no-fault-asked, no-fault-screened, screened-no-fault}
-use Rattle.orders.specs.Order.{placed, TotalOrder, Within, Atomic}
-use Rattle.orders.specs.Check.{sameRow, isRow, misfits, late, tooFar, lowestAt, missing, orderTests, check, Accepted}
+use Rattle.atomicity.specs.Order.{placed, TotalOrder, Within, Atomic}
+use Rattle.atomicity.specs.Check.{sameRow, isRow, misfits, late, tooFar, lowestAt, missing, orderTests, check, Accepted}
 use Rattle.orders.proofs.Positions.{none-at, at-none, told-row, told-repeats, told-misfits, told-late, Near, told-near, told-far}
 
 pub order-coded : (t : List ℕ) (register k : ℕ) (order : List ℕ) → Coded (orderTests t register k order)

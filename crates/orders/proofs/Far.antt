@@ -22,8 +22,8 @@ use Rattle.history.proofs.Operations.{told-write, told-read}
 use Rattle.history.proofs.Rows.{rows-in}
 use Rattle.writers.specs.Writers.{Within, writes, writerOf}
 use Rattle.writers.proofs.Seeking.{Seek, found, none, seek?, writes-is, is-writes}
-use Rattle.orders.specs.Order.{placed, writesBetween}
-use Rattle.orders.specs.Check.{tooFar}
+use Rattle.atomicity.specs.Order.{placed, writesBetween}
+use Rattle.atomicity.specs.Check.{tooFar}
 use Rattle.orders.specs.Faults.{Ordered, writesBefore, Counted}
 use Rattle.orders.proofs.Positions.{Near, told-near}
 use Rattle.orders.proofs.Between.{before-between}

@@ -9,8 +9,8 @@ use borrow.Author.Tests.{ltb-true, ltb-false, lt-ltb, le-ltb}
 use lib.Dec.{ltb}
 use Rattle.lists.specs.Lists.{from, upTo, any}
 use Rattle.history.specs.Table.{precedes}
-use Rattle.orders.specs.Order.{placed}
-use Rattle.orders.specs.Check.{precedesAt, late}
+use Rattle.atomicity.specs.Order.{placed}
+use Rattle.atomicity.specs.Check.{precedesAt, late}
 use Rattle.orders.specs.Faults.{larger}
 use Rattle.orders.proofs.Growing.{any-more}
 

@@ -14,8 +14,8 @@ use Rattle.lists.proofs.Ranges.{below-in, in-below}
 use Rattle.history.specs.Table.{rowCount, RowOf, Precedes, Dictates}
 use Rattle.history.proofs.Operations.{told-read, told-precedes, told-dictates}
 use Rattle.history.proofs.Rows.{told-bears}
-use Rattle.orders.specs.Order.{placed, writesBetween}
-use Rattle.orders.specs.Check.{sameRow, precedesAt, nearAt, isRow, misfits, late, tooFar, lowestAt}
+use Rattle.atomicity.specs.Order.{placed, writesBetween}
+use Rattle.atomicity.specs.Check.{sameRow, precedesAt, nearAt, isRow, misfits, late, tooFar, lowestAt}
 
 -- no position meets the condition: as the search says it, and for each position
 pub none-at : (f : ℕ → Bool) (order : List ℕ) → lowestAt f order ≡ Nothing → (p : ℕ) → p < length order → f p ≡ false

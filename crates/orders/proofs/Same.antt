@@ -20,8 +20,8 @@ use Rattle.history.specs.Answer.{misfit-list, out-of-time, too-far-behind, refu
 use Rattle.history.specs.Screen.{tests}
 use Rattle.history.proofs.Rows.{same-op, same-rows, same-history}
 use Rattle.history.proofs.Refusals.{met-append}
-use Rattle.orders.specs.Order.{placed, writesBetween}
-use Rattle.orders.specs.Check.{sameRow, precedesAt, nearAt, isRow, misfits, late, tooFar, lowestAt, missing, orderTests, check}
+use Rattle.atomicity.specs.Order.{placed, writesBetween}
+use Rattle.atomicity.specs.Check.{sameRow, precedesAt, nearAt, isRow, misfits, late, tooFar, lowestAt, missing, orderTests, check}
 use Rattle.orders.proofs.Positions.{told-row}
 use Rattle.orders.proofs.Exact.{rows-hold}
 

@@ -12,7 +12,7 @@ use lib.Seq.{getD-set-same, getD-set-other}
 use Rattle.lists.specs.Lists.{from, upTo, any}
 use Rattle.lists.proofs.Tests.{or-false, told-true}
 use Rattle.history.specs.Table.{rowCount}
-use Rattle.orders.specs.Check.{sameRow, isRow, misfits}
+use Rattle.atomicity.specs.Check.{sameRow, isRow, misfits}
 use Rattle.orders.proofs.Positions.{told-row}
 use Rattle.orders.proofs.Growing.{or-none, or-met, any-more}
 

@@ -12,8 +12,8 @@ use Rattle.history.specs.Answer.{Code, misfit-list, out-of-time, too-far-behind
 use Rattle.history.specs.Screen.{Screened}
 use Rattle.orders.specs.declared.Fault.{Fault}
 use Rattle.orders.specs.declared.Fault.the-variants.{Misfit, Late, TooFar}
-use Rattle.orders.specs.Order.{TotalOrder}
-use Rattle.orders.specs.Check.{misfits, late, tooFar, lowestAt, missing}
+use Rattle.atomicity.specs.Order.{TotalOrder}
+use Rattle.atomicity.specs.Check.{misfits, late, tooFar, lowestAt, missing}
 
 abbrev pub codeOf : Fault → Code
 codeOf Misfit = misfit-list

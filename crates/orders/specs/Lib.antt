@@ -1,4 +1,2 @@
--- Orders of a register by list positions, and the check of a given one.
-pub mod Order
-pub mod Check
+-- What the order check looks for, in the words of its code.
 pub mod Faults

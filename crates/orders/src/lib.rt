@@ -17,7 +17,7 @@ ghost use Rattle.history.proofs.Refusals.{orTest};
 ghost use Rattle.history.proofs.Searches.{oneIf};
 ghost use Rattle.history.specs.Table.{isWrite};
 ghost use Rattle.writers.specs.Writers.{writerOf};
-ghost use Rattle.orders.specs.Check.{isRow, misfits, late, tooFar, lowestAt, check, Accepted};
+ghost use Rattle.atomicity.specs.Check.{isRow, misfits, late, tooFar, lowestAt, check, Accepted};
 ghost use Rattle.orders.specs.Faults.{condition, codeOf, positionTest, missingTest, Ordered, Before, larger, Counted};
 
 // What may be wrong with a position.

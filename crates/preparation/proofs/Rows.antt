@@ -17,7 +17,7 @@ use Rattle.history.specs.Table.{RowOf, opAt, rowsOf, history, isWrite}
 use Rattle.history.specs.Screen.{Screened}
 use Rattle.history.proofs.Operations.{told-write}
 use Rattle.history.proofs.Rows.{in-rows, rows-in, rows-rise}
-use Rattle.orders.specs.Order.{placed, TotalOrder, writesBetween, Within, Atomic}
+use Rattle.atomicity.specs.Order.{placed, TotalOrder, writesBetween, Within, Atomic}
 use Rattle.methods.specs.Place.{writeCount}
 use Rattle.methods.specs.Mark.{rowNumbers}
 use Rattle.witnesses.specs.Orders.{Before, Orders}

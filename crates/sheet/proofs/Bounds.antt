@@ -13,7 +13,7 @@ use Rattle.history.specs.declared.Op.{Op}
 use Rattle.history.specs.Table.{history, largestCount}
 use Rattle.history.specs.Answer.{numbers}
 use Rattle.methods.specs.Mark.{Outcome, mark}
-use Rattle.orders.specs.Check.{check}
+use Rattle.atomicity.specs.Check.{check}
 use Rattle.marks.specs.Marks.{mostTrials}
 use Rattle.meaning.specs.Marked.{Marked, is-refused, is-spent, is-stale, is-fresh}
 use Rattle.meaning.specs.Demand.{Demand}

@@ -10,7 +10,7 @@ use lib.ListN.{take, replicate}
 use Rattle.history.specs.Table.{largestCount}
 use Rattle.methods.specs.Mark.{Outcome, mark}
 use Rattle.meaning.specs.Demand.{Demand}
-use Rattle.orders.specs.Check.{check, Accepted}
+use Rattle.atomicity.specs.Check.{check, Accepted}
 use Rattle.marks.specs.Marks.{mostTrials}
 use Rattle.text.specs.Decimal.{line}
 use Rattle.lines.specs.Lines.{answersOf, orderWord, checkLine}

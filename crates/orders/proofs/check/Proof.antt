@@ -1,7 +1,7 @@
 -- The answer is the defined one, by the chain of tests; the other two clauses follow from that (`promises`).
 use mathlib.Core.Path.{_≡_, sym, ap, _∙_}
 use borrow.Author.Needs.{needs}
-use Rattle.orders.specs.Check.{check}
+use Rattle.atomicity.specs.Check.{check}
 use Rattle.orders.proofs.Chain.{check-refused, check-past, screened-past, ordered-past, promises}
 use Rattle.orders.proofs.check.Statement.{statement}
 use Rattle.orders.proofs.check.Tie as tie

@@ -6,7 +6,7 @@ use lib.ListN.{length}
 use Rattle.lists.specs.Lists.{first}
 use Rattle.lists.proofs.Scans.{Scan, scan-none, scan-hit, scan-more, scan-end}
 use Rattle.lists.proofs.Members.{first-cons-hit, first-cons-miss}
-use Rattle.orders.specs.Check.{tooFar, lowestAt}
+use Rattle.atomicity.specs.Check.{tooFar, lowestAt}
 use Rattle.orders.proofs.first_too_far.Statement.{statement}
 use Rattle.orders.proofs.first_too_far.Tie as tie
 

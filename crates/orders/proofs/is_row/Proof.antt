@@ -2,7 +2,7 @@ use Prim.Native.Nat.{_/_}
 use borrow.Author.Tests.{lt-ltb, le-ltb}
 use borrow.Author.Needs.{needs}
 use lib.ListN.{length}
-use Rattle.orders.specs.Check.{isRow}
+use Rattle.atomicity.specs.Check.{isRow}
 use Rattle.orders.proofs.is_row.Statement.{statement}
 use Rattle.orders.proofs.is_row.Tie as tie
 

@@ -9,7 +9,7 @@ use lib.ListN.{length}
 use Rattle.lists.specs.Lists.{first}
 use Rattle.lists.proofs.Scans.{Scan, scan-none, scan-hit, scan-more, scan-end}
 use Rattle.lists.proofs.Members.{first-cons-hit, first-cons-miss}
-use Rattle.orders.specs.Check.{late, lowestAt}
+use Rattle.atomicity.specs.Check.{late, lowestAt}
 use Rattle.orders.proofs.Latest.{Latest, latest-none, latest-more, latest-late}
 use Rattle.orders.proofs.lowest_late.Statement.{statement}
 use Rattle.orders.proofs.lowest_late.Tie as tie

@@ -6,7 +6,7 @@ use lib.ListN.{length}
 use Rattle.lists.specs.Lists.{first}
 use Rattle.lists.proofs.Scans.{Scan, scan-none, scan-hit, scan-more, scan-end}
 use Rattle.lists.proofs.Members.{first-cons-hit, first-cons-miss}
-use Rattle.orders.specs.Check.{misfits, lowestAt}
+use Rattle.atomicity.specs.Check.{misfits, lowestAt}
 use Rattle.orders.proofs.Seen.{Seen, seen-none, seen-more, seen-misfits, fit-below}
 use Rattle.orders.proofs.lowest_misfit_with.Statement.{statement}
 use Rattle.orders.proofs.lowest_misfit_with.Tie as tie

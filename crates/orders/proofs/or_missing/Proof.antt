@@ -7,7 +7,7 @@ use lib.ListN.{length}
 use Rattle.history.specs.Table.{rowsOf}
 use Rattle.history.proofs.Rows.{history-count}
 use Rattle.history.proofs.Refusals.{orTest}
-use Rattle.orders.specs.Check.{missing}
+use Rattle.atomicity.specs.Check.{missing}
 use Rattle.orders.proofs.or_missing.Statement.{statement}
 use Rattle.orders.proofs.or_missing.Tie as tie
 

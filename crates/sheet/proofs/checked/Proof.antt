@@ -7,7 +7,7 @@ use lib.ListN.{replicate, length-replicate}
 use lib.Seq.{length-take-le}
 use borrow.Author.Needs.{needs}
 use Rattle.marks.specs.Marks.{mostTrials}
-use Rattle.orders.specs.Check.{check}
+use Rattle.atomicity.specs.Check.{check}
 use Rattle.lines.specs.Lines.{checkLine}
 use Rattle.sheet.specs.Sheet.{sheetOf, examOf}
 use Rattle.sheet.specs.Pages.{room}

@@ -13,7 +13,7 @@ use Rattle.history.specs.declared.Answer.{Answer}
 use Rattle.history.specs.Table.{rowCount, bears, rowsOf, history, isRead, precedes, dictates}
 use Rattle.history.specs.Answer.{misfit-list, out-of-time, too-far-behind, Test, test, firstMet, passed}
 use Rattle.history.specs.Screen.{tests, Screened}
-use Rattle.orders.specs.Order.{placed, writesBetween, Atomic}
+use Rattle.atomicity.specs.Order.{placed, writesBetween, Atomic}
 
 -- Position p against a position q before it (01's table, 13 to 15): the same row; a row that p's precedes; p's dictating write with fewer than
 -- k writes between.
