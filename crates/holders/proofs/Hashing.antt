@@ -7,7 +7,7 @@ use mathlib.Core.List.{List}
 use native.Mathlib.Omega.{arith}
 use lib.ListN.{length, getD, set, replicate, length-set, length-replicate, getD-replicate}
 use lib.Seq.{getD-set-same, getD-set-other}
-use Rattle.sorting.specs.Firsts.{First, Firsts}
+use Rattle.firsts.specs.Firsts.{First, Firsts}
 use Rattle.holders.specs.Buckets.{mostKeys, bucketOf, Held, Last, Started, Room}
 use Rattle.holders.proofs.Walking.{below}
 

@@ -9,7 +9,7 @@ use mathlib.Core.Bool.{Bool, true, false}
 use lib.Dec.{ltb}
 use borrow.Author.Tests.{ltb-true, ltb-false}
 use lib.ListN.{getD}
-use Rattle.sorting.specs.Firsts.{First}
+use Rattle.firsts.specs.Firsts.{First}
 use Rattle.holders.specs.Buckets.{bucketOf, Held, Last, Started}
 
 -- below e, no first place from k on has e's key; and k is a link of e's bucket

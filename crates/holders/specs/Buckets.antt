@@ -5,7 +5,7 @@ use mathlib.Core.Path.{_≡_}
 use mathlib.Core.Bool.{Bool, cond}
 use mathlib.Core.List.{List}
 use lib.ListN.{length, getD}
-use Rattle.sorting.specs.Firsts.{First}
+use Rattle.firsts.specs.Firsts.{First}
 use Rattle.holders.specs.declared.Seen.{Seen}
 
 -- how many buckets there are for few keys and for many, and the most keys

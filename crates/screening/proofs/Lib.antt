@@ -1,4 +1,3 @@
--- What the code looks at, its loops, and what its chain of tests computes.
-pub mod Shows
+-- The loops, and what the tests of the rows leave of tests 1 to 9.
 pub mod Loops
-pub mod Chain
+pub mod Examined

@@ -18,7 +18,7 @@ use Rattle.history.specs.declared.Answer.{Answer}
 use Rattle.history.specs.Answer.{firstMet, passed}
 use Rattle.history.proofs.Rows.{in-rows, rows-rise, rows-few, history-count}
 use Rattle.writers.specs.Writers.{rowOp}
-use Rattle.screening.specs.Tests.{rowTests, Stamped, Listed, Quiet}
+use Rattle.conditions.specs.Tests.{rowTests, Stamped, Listed}
 
 module _ (t : List ℕ) (register : ℕ) (list₀ : List ℕ) where
   -- the first i rows are looked at, and m of them gathered
@@ -128,19 +128,3 @@ module _ (t : List ℕ) (register m : ℕ) (rows : List ℕ) (few : rowCount t �
   pub gathered-answer : (r : Answer) → r ≡ firstMet (rowTests (map (opAt t) (take m rows))) (passed (length (take m rows)))
       → r ≡ firstMet (rowTests (history t register)) (passed (length (history t register)))
   gathered-answer r e = e ∙ ap₂ (λ h n. firstMet (rowTests h) (passed n)) gathered-history (gathered-long ∙ g .0 ∙ sym (history-count t register))
-
--- The loop that looks for a row that shows a condition: the first i rows show none.
-pub record Silence (t rows firsts writer : List ℕ) (i : ℕ) : Type 0 where
-  pub within : i ≤ length rows
-  pub quiet : (j : ℕ) → j < i → Quiet t rows firsts writer j
-
-module _ (t rows firsts writer : List ℕ) where
-  pub silence-none : Silence t rows firsts writer 0
-  silence-none = record { within = omega arith; quiet = λ j l. absurd (omega arith) }
-
-  pub silence-more : (i : ℕ) → i < length rows → Silence t rows firsts writer i → Quiet t rows firsts writer i → Silence t rows firsts writer (i + 1)
-  silence-more i l g q = record { within = omega arith; quiet = λ j k. go j (eq-or-lt-of-le (omega arith)) }
-    where
-      go : (j : ℕ) → (j ≡ i) ⊎ (j < i) → Quiet t rows firsts writer j
-      go j (inl e) = rw e q
-      go j (inr k) = g .quiet j k

@@ -13,8 +13,8 @@ use lib.ListN.{length, getD, take, drop, replicate, set, length-set, length-map,
 use lib.Seq.{drop-cons, drop-length, getD-take, getD-set-same, getD-set-other}
 use Rattle.lists.proofs.Images.{getD-map}
 use Rattle.history.specs.Table.{opAt, isWrite}
-use Rattle.sorting.specs.Firsts.{Firsts}
-use Rattle.sorting.proofs.Places.{firsts-low, firsts-same, firsts-equal}
+use Rattle.firsts.specs.Firsts.{Firsts}
+use Rattle.firsts.proofs.Places.{firsts-low, firsts-same, firsts-equal}
 use Rattle.writers.specs.Writers.{writes, writesAt, seek, valueOf}
 use Rattle.writers.specs.Marked.{Marked}
 

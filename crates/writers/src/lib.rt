@@ -6,7 +6,7 @@ ghost use mathlib.Core.List.{map};
 ghost use Prim.Native.Nat.{ℕ, _≤_, _<_};
 ghost use lib.ListN.{length, getD};
 ghost use Rattle.history.specs.Table.{largestCount};
-ghost use Rattle.sorting.specs.Firsts.{Firsts};
+ghost use Rattle.firsts.specs.Firsts.{Firsts};
 ghost use Rattle.writers.specs.Writers.{Within, writerOf, valueOf};
 ghost use Rattle.writers.specs.Marked.{Marked};
 

@@ -5,7 +5,7 @@ use lib.ListN.{length}
 use Rattle.history.specs.Table.{largestCount, history}
 use Rattle.history.specs.Answer.{firstMet}
 use Rattle.history.specs.Screen.{examined, tests}
-use Rattle.screening.proofs.Chain.{past-three}
+use Rattle.screening.proofs.Examined.{past-three}
 use borrow.Author.Needs.{needs}
 use Rattle.screening.proofs.examine.Statement.{statement}
 use Rattle.screening.proofs.examine.Tie as tie

@@ -3,7 +3,7 @@ use mathlib.Core.Path.{ap, sym, _∙_}
 use borrow.Author.Needs.{needs}
 use Rattle.history.specs.Screen.{screening}
 use Rattle.history.proofs.Screened.{screening-exactly}
-use Rattle.screening.proofs.Chain.{alike-screening}
+use Rattle.screening.proofs.Examined.{alike-screening}
 use Rattle.screening.proofs.screen.Statement.{statement}
 use Rattle.screening.proofs.screen.Tie as tie
 

@@ -1,0 +1,4 @@
+-- What the code looks at, its loop, and what its chain of tests computes.
+pub mod Shows
+pub mod Silence
+pub mod Chain

@@ -1,0 +1,16 @@
+use Rattle.lists.proofs.Decide.{decide}
+use Rattle.history.specs.Table.{isWrite, isRead}
+use Rattle.history.specs.Screen.{wrongKind}
+use Rattle.conditions.proofs.wrong_kind.Statement.{statement}
+use Rattle.conditions.proofs.wrong_kind.Tie as tie
+
+returns : tie.Need-returns
+unfolding wrongKind isWrite isRead
+returns c = search decide
+
+returns-2 : tie.Need-returns-2
+unfolding wrongKind isWrite isRead
+returns-2 c = search decide
+
+pub wrong-kind-spec : {M : Type 1} → statement M
+wrong-kind-spec = tie.close (tie.spec returns returns-2)

@@ -1,0 +1,2 @@
+-- The first place of each key.
+pub mod Firsts
