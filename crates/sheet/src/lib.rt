@@ -4,7 +4,7 @@ use history::Row;
 ghost use mathlib.Core.Path.{_≡_};
 ghost use Prim.Native.Nat.{_+_, _≤_, _<_};
 ghost use lib.ListN.{length, replicate};
-ghost use Rattle.files.specs.Records.{tableOf};
+ghost use Rattle.records.specs.Records.{tableOf};
 ghost use Rattle.marks.specs.Marks.{mostTrials};
 ghost use Rattle.printing.specs.Texts.{Printed};
 ghost use Rattle.sheet.specs.Sheet.{outcomeTo, answerLine, answersOf, sheetOf, Shown, checkLine, examOf, Told};

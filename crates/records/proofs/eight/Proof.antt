@@ -6,10 +6,10 @@ use native.Mathlib.Omega.{arith}
 use lib.ListN.{getD}
 use borrow.Author.Needs.{needs}
 use Rattle.lists.specs.Lists.{from}
-use Rattle.files.specs.Records.{valueOf}
-use Rattle.files.proofs.Numbers.{field-list}
-use Rattle.files.proofs.eight.Statement.{statement}
-use Rattle.files.proofs.eight.Tie as tie
+use Rattle.records.specs.Records.{valueOf}
+use Rattle.records.proofs.Numbers.{field-list}
+use Rattle.records.proofs.eight.Statement.{statement}
+use Rattle.records.proofs.eight.Tie as tie
 
 add-wide : tie.Need-add-wide
 add-wide c = search needs

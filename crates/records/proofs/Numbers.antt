@@ -2,13 +2,13 @@
 -- Assumes nothing.
 use Prim.Native.Nat.{ℕ, zero, suc, _+_, _*_, _/_, _%_, _^_, _≤_, _<_}
 use mathlib.Core.Path.{_≡_, refl, sym, ap, _∙_}
-use mathlib.Core.List.{List, [], _∷_, _++_, map, flatMap}
+use mathlib.Core.List.{List, [], _∷_, map}
 use native.Mathlib.Nat.{pow-succ', add-zero, pow-le-pow-right}
 use native.Mathlib.Omega.{arith}
 use lib.ListN.{length, getD, take, drop, length-take, length-drop}
 use lib.Seq.{drop-cons, getD-drop, length-take-le}
 use Rattle.lists.specs.Lists.{from, upTo}
-use Rattle.files.specs.Records.{littleEndian, valueOf, field, Below, Bytes}
+use Rattle.records.specs.Records.{littleEndian, valueOf, field, Below, Bytes}
 
 pub length-bytes : (n x : ℕ) → length (littleEndian n x) ≡ n
 unfolding littleEndian
@@ -75,14 +75,3 @@ part-list l at n h = ap (λ (k : ℕ). take n (drop k l)) (sym (add-zero at)) �
 pub field-list : (bs : List ℕ) (at n : ℕ) → at + n ≤ length bs → field bs at n ≡ valueOf (map (λ (k : ℕ). getD bs (at + k) 0) (upTo n))
 unfolding field
 field-list bs at n h = ap valueOf (part-list bs at n h)
-
--- Numbers below a bound, list behind list.
-pub below-append : {bound : ℕ} (xs ys : List ℕ) → Below bound xs → Below bound ys → Below bound (xs ++ ys)
-below-append [] ys h g i = g i
-below-append (x ∷ xs) ys h g zero = h 0
-below-append (x ∷ xs) ys h g (suc i) = below-append xs ys (λ j. h (suc j)) g i
-
-pub below-flat : {bound : ℕ} (g : ℕ → List ℕ) (l : List ℕ) → 0 < bound → ((x : ℕ) → Below bound (g x)) → Below bound (flatMap g l)
-unfolding flatMap
-below-flat g [] z h i = z
-below-flat g (x ∷ l) z h i = below-append (g x) (flatMap g l) (h x) (below-flat g l z h) i

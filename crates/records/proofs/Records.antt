@@ -1,18 +1,18 @@
 -- A record's bytes and its row, each from the other; a table's rows, and a file's records.
 -- Assumes nothing.
-use Prim.Native.Nat.{ℕ, zero, suc, _+_, _*_, _^_, _≤_, _<_}
+use Prim.Native.Nat.{ℕ, _+_, _*_, _^_, _≤_, _<_}
 use mathlib.Core.Path.{_≡_, refl, sym, ap, _∙_}
 use mathlib.Core.List.{List, _++_}
 use native.Mathlib.Nat.{add-zero}
 use native.Mathlib.Omega.{arith}
 use lib.ListN.{length, getD, take, drop}
 use lib.Seq.{getD-take, getD-drop, take-add, drop-drop}
-use Rattle.lists.specs.Lists.{from, upTo}
+use Rattle.lists.specs.Lists.{from}
 use Rattle.history.specs.declared.Row.{Row}
 use Rattle.history.specs.Table.{rowAt, rowCount}
-use Rattle.files.specs.Records.{littleEndian, valueOf, field, Bytes, Words, begun, recordAt, recordOf, cells, tableOf, fileOf}
-use Rattle.files.proofs.Numbers.{value-bytes, field-bytes, field-below, part-list, below-flat}
-use Rattle.files.proofs.Blocks.{part-part, length-blocks, blocks-part}
+use Rattle.records.specs.Records.{littleEndian, valueOf, field, Bytes, begun, recordAt, recordOf, cells, tableOf, fileOf}
+use Rattle.records.proofs.Numbers.{value-bytes, field-bytes, part-list}
+use Rattle.records.proofs.Blocks.{part-part, length-blocks, blocks-part}
 
 pub length-record : (r : Row) → length (recordOf r) ≡ 36
 unfolding recordOf littleEndian
@@ -106,16 +106,3 @@ module _ (t : List ℕ) where
   pub file-record : (i : ℕ) → i < rowCount t → take 36 (drop (i * 36) (fileOf t)) ≡ recordOf (rowAt t i)
   unfolding fileOf
   file-record i h = blocks-part (λ n. recordOf (rowAt t n)) 36 (λ i. length-record (rowAt t i)) (rowCount t) i h
-
--- The table's numbers are words.
-pub table-words : (bs : List ℕ) → Bytes bs → Words (tableOf bs)
-unfolding tableOf recordAt
-table-words bs b = below-flat (λ n. cells (recordAt bs n)) (upTo (begun bs)) (omega arith) go
-  where
-    go : (n i : ℕ) → getD (cells (recordAt bs n)) i 0 < 2 ^ 64
-    go n zero = field-below bs (n * 36 + 4) 8 b
-    go n (suc zero) = omega (arith, field-below bs (n * 36 + 2) 2 b)
-    go n (suc (suc zero)) = field-below bs (n * 36 + 12) 8 b
-    go n (suc (suc (suc zero))) = field-below bs (n * 36 + 20) 8 b
-    go n (suc (suc (suc (suc zero)))) = field-below bs (n * 36 + 28) 8 b
-    go n (suc (suc (suc (suc (suc i))))) = omega arith

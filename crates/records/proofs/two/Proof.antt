@@ -6,10 +6,10 @@ use native.Mathlib.Omega.{arith}
 use lib.ListN.{getD}
 use borrow.Author.Needs.{needs}
 use Rattle.lists.specs.Lists.{from}
-use Rattle.files.specs.Records.{valueOf}
-use Rattle.files.proofs.Numbers.{field-list}
-use Rattle.files.proofs.two.Statement.{statement}
-use Rattle.files.proofs.two.Tie as tie
+use Rattle.records.specs.Records.{valueOf}
+use Rattle.records.proofs.Numbers.{field-list}
+use Rattle.records.proofs.two.Statement.{statement}
+use Rattle.records.proofs.two.Tie as tie
 
 shared-slice-read-wide : tie.Need-shared-slice-read-wide
 shared-slice-read-wide c = search needs

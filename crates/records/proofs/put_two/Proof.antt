@@ -3,10 +3,10 @@ use Prim.Native.Nat.{_%_, _/_}
 use native.Mathlib.Omega.{arith}
 use lib.ListN.{length-set}
 use borrow.Author.Needs.{needs}
-use Rattle.files.specs.Records.{littleEndian}
-use Rattle.files.proofs.Storing.{stores-first}
-use Rattle.files.proofs.put_two.Statement.{statement}
-use Rattle.files.proofs.put_two.Tie as tie
+use Rattle.records.specs.Records.{littleEndian}
+use Rattle.records.proofs.Storing.{stores-first}
+use Rattle.records.proofs.put_two.Statement.{statement}
+use Rattle.records.proofs.put_two.Tie as tie
 
 low-requires : tie.Need-low-requires
 low-requires c κs = search needs

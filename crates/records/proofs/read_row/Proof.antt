@@ -4,10 +4,10 @@ use native.Mathlib.Nat.{add-zero}
 use native.Mathlib.Omega.{arith}
 use lib.ListN.{length-set}
 use borrow.Author.Needs.{needs}
-use Rattle.files.specs.Records.{recordAt, cells}
-use Rattle.files.proofs.Storing.{stores-sets}
-use Rattle.files.proofs.read_row.Statement.{statement}
-use Rattle.files.proofs.read_row.Tie as tie
+use Rattle.records.specs.Records.{recordAt, cells}
+use Rattle.records.proofs.Storing.{stores-sets}
+use Rattle.records.proofs.read_row.Statement.{statement}
+use Rattle.records.proofs.read_row.Tie as tie
 
 mul-at : tie.Need-mul-at
 mul-at c = search needs

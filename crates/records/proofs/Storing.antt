@@ -1,17 +1,14 @@
--- Runs of stores, one behind the other, and the loop that fills a lent list with parts of one length.
+-- Runs of stores, one behind the other: those of a record's fields are those of the record.
 -- Assumes nothing.
-use Prim.Native.Nat.{ℕ, suc, _+_, _*_, _≤_, _<_}
-use mathlib.Core.Path.{_≡_, refl, sym, ap, _∙_}
-use mathlib.Core.List.{List, [], _∷_, _++_, flatMap}
-use native.Mathlib.Nat.{zero-add}
+use Prim.Native.Nat.{ℕ, suc, _+_}
+use mathlib.Core.Path.{_≡_, refl, _∙_}
+use mathlib.Core.List.{List, [], _∷_, _++_}
 use native.Mathlib.Omega.{arith}
-use lib.ListN.{length, drop, set, length-append}
-use lib.Seq.{sets, sets-eq, length-sets}
-use Rattle.lists.specs.Lists.{from}
+use lib.ListN.{length, set, length-append}
+use lib.Seq.{sets}
 use Rattle.history.specs.declared.Row.{Row}
-use Rattle.files.specs.Records.{littleEndian, recordOf}
-use Rattle.files.proofs.Numbers.{length-bytes}
-use Rattle.files.proofs.Blocks.{blocks, blocks-more, length-blocks}
+use Rattle.records.specs.Records.{littleEndian, recordOf}
+use Rattle.records.proofs.Numbers.{length-bytes}
 
 -- the stores of vs, then those of ws behind them
 pub sets-on : (vs ws l : List ℕ) (i j : ℕ) → i + length vs ≡ j → sets (sets l i vs) j ws ≡ sets l i (vs ++ ws)
@@ -54,34 +51,3 @@ record-stores l at r =
       sets-on (a ++ b ++ c ++ d) e l at (at + 20) (omega arith),
       sets-on (a ++ b ++ c ++ d ++ e) (littleEndian 8 (r .finish)) l at (at + 28) (omega arith),
     )
-
--- The first i parts are stored.
-pub record Filling (g : ℕ → List ℕ) (old : List ℕ) (n i : ℕ) (l : List ℕ) : Type 0 where
-  pub within : i ≤ n
-  pub stored : l ≡ sets old 0 (blocks g i)
-
-module _ (g : ℕ → List ℕ) (old : List ℕ) (n : ℕ) where
-  pub fill-none : Filling g old n 0 old
-  unfolding from flatMap
-  fill-none = record { within = omega arith; stored = refl }
-
-  module _ (i : ℕ) (l : List ℕ) (f : Filling g old n i l) where
-    pub fill-long : length l ≡ length old
-    fill-long = ap length (f .stored) ∙ length-sets old 0 (blocks g i)
-
-    pub fill-more : (size : ℕ) → ((k : ℕ) → length (g k) ≡ size) → i < n → (m : List ℕ) → m ≡ sets l (i * size) (g i) → Filling g old n (i + 1) m
-    fill-more size each h m e =
-        record {
-          within = omega arith;
-          stored =
-              e
-              ∙ ap (λ (x : List ℕ). sets x (i * size) (g i)) (f .stored)
-              ∙ sets-on (blocks g i) (g i) old 0 (i * size) (omega (arith, length-blocks g size each i))
-              ∙ ap (sets old 0) (sym (blocks-more g i));
-        }
-
-    pub fill-end : n ≤ i → length (blocks g n) ≤ length old → l ≡ blocks g n ++ drop (length (blocks g n)) old
-    fill-end h r =
-        let e : i ≡ n = omega (arith, f .within) in
-        f .stored ∙ ap (λ (k : ℕ). sets old 0 (blocks g k)) e ∙ sets-eq (blocks g n) old 0 (omega arith)
-        ∙ ap (λ (k : ℕ). blocks g n ++ drop k old) (zero-add (length (blocks g n)))

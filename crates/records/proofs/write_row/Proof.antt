@@ -2,9 +2,9 @@
 use Prim.Native.Nat.{_*_}
 use borrow.Author.Needs.{needs}
 use Rattle.history.specs.Table.{rowAt}
-use Rattle.files.proofs.Storing.{record-stores}
-use Rattle.files.proofs.write_row.Statement.{statement}
-use Rattle.files.proofs.write_row.Tie as tie
+use Rattle.records.proofs.Storing.{record-stores}
+use Rattle.records.proofs.write_row.Statement.{statement}
+use Rattle.records.proofs.write_row.Tie as tie
 
 mul-base : tie.Need-mul-base
 mul-base c = search needs
