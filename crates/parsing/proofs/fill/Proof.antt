@@ -5,11 +5,11 @@ use mathlib.Core.List.{[], _∷_}
 use native.Mathlib.Omega.{arith}
 use lib.ListN.{length, drop}
 use borrow.Author.Needs.{needs}
-use Rattle.text.specs.Numbers.{leading}
+use Rattle.parsing.specs.Numbers.{leading}
 use Rattle.text.proofs.Putting.{Putting, put-none, put-more, put-all}
-use Rattle.text.proofs.Lines.{end-within, leading-full, leading-done, leading-next, leading-not}
-use Rattle.text.proofs.fill.Statement.{statement}
-use Rattle.text.proofs.fill.Tie as tie
+use Rattle.parsing.proofs.Lines.{end-within, leading-full, leading-done, leading-next, leading-not}
+use Rattle.parsing.proofs.fill.Statement.{statement}
+use Rattle.parsing.proofs.fill.Tie as tie
 
 abbrev Inv-loop : tie.InvT-loop
 Inv-loop text list₀ at₀ n₀ list at n = Putting list₀ 0 (leading (length list₀) text) list n (leading (length list₀ - n) (drop at text))

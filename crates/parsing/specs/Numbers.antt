@@ -6,10 +6,10 @@ use mathlib.Core.List.{List, [], _∷_, _++_}
 use lib.Dec.{eqb, ltb, leb}
 use lib.ListN.{length, drop}
 use Rattle.lists.specs.Lists.{all}
-use Rattle.text.specs.declared.Number.{Number}
-use Rattle.text.specs.declared.Number.the-variants.{Is, Nothing}
-use Rattle.text.specs.declared.Count.{Count}
-use Rattle.text.specs.declared.Count.the-variants.{Read, NoList}
+use Rattle.parsing.specs.declared.Number.{Number}
+use Rattle.parsing.specs.declared.Number.the-variants.{Is, Nothing}
+use Rattle.parsing.specs.declared.Count.{Count}
+use Rattle.parsing.specs.declared.Count.the-variants.{Read, NoList}
 
 -- a decimal digit as a byte
 unfoldable pub isDigit : ℕ → Bool

@@ -4,10 +4,10 @@ use mathlib.Core.Path.{_≡_, sym, _∙_}
 use native.Mathlib.Omega.{arith}
 use lib.ListN.{drop}
 use borrow.Author.Needs.{needs}
-use Rattle.text.specs.Numbers.{sound}
-use Rattle.text.proofs.Lines.{end-within, sound-full, sound-done, sound-next, sound-not}
-use Rattle.text.proofs.sound.Statement.{statement}
-use Rattle.text.proofs.sound.Tie as tie
+use Rattle.parsing.specs.Numbers.{sound}
+use Rattle.parsing.proofs.Lines.{end-within, sound-full, sound-done, sound-next, sound-not}
+use Rattle.parsing.proofs.sound.Statement.{statement}
+use Rattle.parsing.proofs.sound.Tie as tie
 
 abbrev Inv-loop : tie.InvT-loop
 Inv-loop text most at₀ n₀ at n = sound most text ≡ sound (most - n) (drop at text)

@@ -3,9 +3,9 @@ use native.Mathlib.Omega.{arith}
 use borrow.Author.Tests.{lt-ltb, le-ltb, le-leb, lt-leb}
 use borrow.Author.Needs.{needs}
 use Rattle.lists.specs.Lists.{all}
-use Rattle.text.specs.Numbers.{isDigit, worth, held, says}
-use Rattle.text.proofs.appended.Statement.{statement}
-use Rattle.text.proofs.appended.Tie as tie
+use Rattle.parsing.specs.Numbers.{isDigit, worth, held, says}
+use Rattle.parsing.proofs.appended.Statement.{statement}
+use Rattle.parsing.proofs.appended.Tie as tie
 
 returns : tie.Need-returns
 unfolding says all isDigit

@@ -11,9 +11,9 @@ use lib.ListN.{length, getD, drop, drop-of-length-le}
 use lib.Seq.{drop-cons}
 use borrow.Author.Tests.{lt-ltb, le-ltb, ltb-true, ltb-false}
 use Rattle.lists.specs.Lists.{all}
-use Rattle.text.specs.Numbers.{isDigit, worth, held, says, numberIn}
-use Rattle.text.specs.declared.Number.{Number}
-use Rattle.text.specs.declared.Number.the-variants.{Is, Nothing}
+use Rattle.parsing.specs.Numbers.{isDigit, worth, held, says, numberIn}
+use Rattle.parsing.specs.declared.Number.{Number}
+use Rattle.parsing.specs.declared.Number.the-variants.{Is, Nothing}
 
 worth-grows : (v : ℕ) (t : List ℕ) → v ≤ worth v t
 unfolding worth

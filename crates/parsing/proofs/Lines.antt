@@ -10,9 +10,9 @@ use lib.Dec.{eqb}
 use lib.ListN.{length, getD, take, drop, length-drop, drop-of-length-le}
 use lib.Seq.{drop-cons, drop-drop}
 use borrow.Author.Tests.{eq-eqb, ne-eqb}
-use Rattle.text.specs.Numbers.{numberIn, front, after, isNumber, before, sound, leading, linesIn, numbers, no-list}
-use Rattle.text.specs.declared.Number.{Number}
-use Rattle.text.specs.declared.Number.the-variants.{Is, Nothing}
+use Rattle.parsing.specs.Numbers.{numberIn, front, after, isNumber, before, sound, leading, linesIn, numbers, no-list}
+use Rattle.parsing.specs.declared.Number.{Number}
+use Rattle.parsing.specs.declared.Number.the-variants.{Is, Nothing}
 
 pub front-take : (t : List ℕ) → take (length (front t)) t ≡ front t
 unfolding front

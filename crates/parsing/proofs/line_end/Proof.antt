@@ -3,10 +3,10 @@ use Prim.Native.Nat.{_+_, _-_}
 use mathlib.Core.Path.{_≡_, refl}
 use native.Mathlib.Omega.{arith}
 use lib.ListN.{length, drop}
-use Rattle.text.specs.Numbers.{front}
-use Rattle.text.proofs.Lines.{front-feed, front-on, front-end}
-use Rattle.text.proofs.line_end.Statement.{statement}
-use Rattle.text.proofs.line_end.Tie as tie
+use Rattle.parsing.specs.Numbers.{front}
+use Rattle.parsing.proofs.Lines.{front-feed, front-on, front-end}
+use Rattle.parsing.proofs.line_end.Statement.{statement}
+use Rattle.parsing.proofs.line_end.Tie as tie
 
 abbrev Inv-loop : tie.InvT-loop
 Inv-loop text at end₀ end = at + length (front (drop at text)) ≡ end + length (front (drop end text))

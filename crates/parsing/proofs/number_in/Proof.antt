@@ -4,9 +4,9 @@ use mathlib.Core.Path.{sym, _∙_}
 use native.Mathlib.Omega.{arith}
 use lib.ListN.{length}
 use borrow.Author.Needs.{needs}
-use Rattle.text.proofs.Values.{number-empty, number-long, Reading, read-none, read-more, read-other, read-end}
-use Rattle.text.proofs.number_in.Statement.{statement}
-use Rattle.text.proofs.number_in.Tie as tie
+use Rattle.parsing.proofs.Values.{number-empty, number-long, Reading, read-none, read-more, read-other, read-end}
+use Rattle.parsing.proofs.number_in.Statement.{statement}
+use Rattle.parsing.proofs.number_in.Tie as tie
 
 abbrev Inv-loop : tie.InvT-loop
 Inv-loop text value₀ i₀ value i = Reading text value i

@@ -3,10 +3,10 @@ use lib.ListN.{length}
 use borrow.Author.Tests.{not-true, not-false}
 use borrow.Author.Needs.{needs}
 use Rattle.lists.proofs.Stores.{sets-front}
-use Rattle.text.specs.Numbers.{counted, stored, leading}
-use Rattle.text.proofs.Lines.{lines-bad, lines-good, leading-length}
-use Rattle.text.proofs.list.Statement.{statement}
-use Rattle.text.proofs.list.Tie as tie
+use Rattle.parsing.specs.Numbers.{counted, stored, leading}
+use Rattle.parsing.proofs.Lines.{lines-bad, lines-good, leading-length}
+use Rattle.parsing.proofs.list.Statement.{statement}
+use Rattle.parsing.proofs.list.Tie as tie
 
 sound-requires : tie.Need-sound-requires
 sound-requires c κs = search needs

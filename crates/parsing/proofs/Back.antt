@@ -11,12 +11,12 @@ use lib.ListN.{length, take, length-append}
 use lib.Seq.{drop-append-add}
 use borrow.Author.Tests.{ltb-true, ltb-false, le-ltb, le-leb, ne-eqb}
 use Rattle.lists.specs.Lists.{all}
 use Rattle.text.specs.Decimal.{digit, digits, decimal, behind, joined, line, linesOf}
-use Rattle.text.specs.Numbers.{isDigit, worth, says, numberIn, front, after, isNumber, before, sound, leading, linesIn, numbers}
-use Rattle.text.specs.declared.Number.the-variants.{Is}
+use Rattle.parsing.specs.Numbers.{isDigit, worth, says, numberIn, front, after, isNumber, before, sound, leading, linesIn, numbers}
+use Rattle.parsing.specs.declared.Number.the-variants.{Is}
 use Rattle.text.proofs.Digits.{decimal-length}
-use Rattle.text.proofs.Values.{held-small, number-sized}
-use Rattle.text.proofs.Lines.{sound-some, leading-some, lines-good}
+use Rattle.parsing.proofs.Values.{held-small, number-sized}
+use Rattle.parsing.proofs.Lines.{sound-some, leading-some, lines-good}
 
 worth-snoc : (v : ℕ) (t : List ℕ) (c : ℕ) → worth v (t ++ (c ∷ [])) ≡ worth v t * 10 + (c - 48)
 unfolding worth
