@@ -1,5 +1,5 @@
 // bench REGISTER ALLOWANCE: reads a history file from standard input and prints the marks of a register, and the orders of the fresh ones.
-use text::Number;
+use parsing::Number;
 
 fn main() {
     if os::arg_count() != 3 {

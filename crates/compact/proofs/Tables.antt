@@ -17,9 +17,9 @@ use Rattle.lists.proofs.Images.{getD-in, pairs-at}
 use Rattle.lists.proofs.Pairs.{pairs-keep}
 use Rattle.lists.proofs.Ranges.{in-below, from-rises, at-each}
 use Rattle.history.specs.Table.{rowAt, rowCount, operation, opAt, bears, rowsOf, history}
-use Rattle.files.specs.Records.{begun, recordAt, cells, tableOf}
-use Rattle.files.proofs.Blocks.{blocks, blocks-part}
-use Rattle.files.proofs.Records.{cells-row, length-table, count-table, table-row}
+use Rattle.records.specs.Records.{begun, recordAt, cells, tableOf}
+use Rattle.records.proofs.Blocks.{blocks, blocks-part}
+use Rattle.records.proofs.Records.{cells-row, length-table, count-table, table-row}
 use Rattle.files.proofs.Passing.{Whole}
 use Rattle.marks.specs.Marks.{answerTo, mostTrials}
 use Rattle.selection.specs.Selected.{isOf, recordsOf, registerTable}

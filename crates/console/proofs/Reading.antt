@@ -8,10 +8,10 @@ use native.Mathlib.Omega.{arith}
 use lib.ListN.{length}
 use lib.Seq.{length-take-le}
 use Rattle.io.specs.Counts.{Counts}
-use Rattle.text.specs.declared.Count.{Count}
-use Rattle.text.specs.declared.Count.the-variants.{Read}
-use Rattle.text.specs.Numbers.{sound, leading, numbers, no-list, linesIn, counted}
-use Rattle.text.proofs.Lines.{leading-length}
+use Rattle.parsing.specs.declared.Count.{Count}
+use Rattle.parsing.specs.declared.Count.the-variants.{Read}
+use Rattle.parsing.specs.Numbers.{sound, leading, numbers, no-list, linesIn, counted}
+use Rattle.parsing.proofs.Lines.{leading-length}
 
 read-within : (k n : ℕ) (t : List ℕ) → counted (linesIn k t) ≡ Read n → n ≤ k
 unfolding counted linesIn

@@ -1,14 +1,14 @@
 // What the programs ask of the system: all of an input, a number among the arguments, printing, complaining. The contracts of the C library's calls are assumed.
 use libc::STDERR_FILENO;
 use libc::STDOUT_FILENO;
-use text::Count;
-use text::Number;
+use parsing::Count;
+use parsing::Number;
 ghost use mathlib.Core.Path.{_≡_};
 ghost use mathlib.Core.List.{List};
 ghost use Prim.Native.Nat.{ℕ, _≤_};
 ghost use lib.ListN.{length};
 ghost use Rattle.io.specs.Counts.{Counts};
-ghost use Rattle.text.specs.Numbers.{numberIn};
+ghost use Rattle.parsing.specs.Numbers.{numberIn};
 
 // How many bytes of an input stand at the front of the buffer, and whether no read failed.
 pub struct Input {
@@ -67,7 +67,7 @@ pub struct Listing {
 fn listed(bytes: &[u8], list: &mut [u64]) -> Listing
     ensures { λ r. ⌜ Counts (r .count) (now (list .exit)) ⌝ }
 {
-    match text::list(bytes, list) {
+    match parsing::list(bytes, list) {
         Count::Read(count) => Listing {
             readable: true,
             sound: true,
@@ -107,7 +107,7 @@ pub fn number(place: usize) -> Number
 {
     let mut word = [0u8; 32];
     let n = os::arg(place, &mut word);
-    text::number_in(&word[..n])
+    parsing::number_in(&word[..n])
 }
 
 // Prints the front of a text.

@@ -1,5 +1,5 @@
 // exam REGISTER K ORDERFILE: what bench prints with 524,800 trials allowed, and the check of the order in the file.
-use text::Number;
+use parsing::Number;
 
 fn main() {
     if os::arg_count() != 4 {

@@ -8,7 +8,7 @@ use borrow.Author.Tests.{eq-eqb, ne-eqb}
 use lib.ListN.{length, drop}
 use Rattle.history.specs.declared.Answer.{Answer}
 use Rattle.history.specs.Answer.{firstMet, passed}
-use Rattle.files.specs.Records.{begun}
+use Rattle.records.specs.Records.{begun}
 use Rattle.files.specs.Files.{fileAnswer, fileTests, roomTest, after, readTests, readAnswer}
 use Rattle.files.proofs.Meeting.{met-stop, met-on}
 use Rattle.files.proofs.Passing.{file-coded}

@@ -8,7 +8,7 @@ use Rattle.history.specs.declared.Answer.{Answer}
 use Rattle.history.specs.Table.{opAt, isWrite, isRead}
 use Rattle.history.specs.Answer.{firstMet, passed, refusedBy}
 use Rattle.history.specs.Screen.{wrongKind}
-use Rattle.files.specs.Records.{littleEndian, valueOf, field, recordAt, recordOf, tableOf, fileOf}
+use Rattle.records.specs.Records.{littleEndian, valueOf, field, recordAt, recordOf, tableOf, fileOf}
 use Rattle.files.specs.Files.{recordTests, fileTests, readTests, readAnswer, readTable, opsOf, writeTests, writeAnswer, writeBytes}
 
 -- What a call gives: its answer, and the lent list after it.

@@ -8,9 +8,9 @@ use lib.ListN.{length, take, drop, length-append}
 use lib.Seq.{take-at}
 use Rattle.history.specs.declared.Answer.{Answer}
 use Rattle.history.specs.Table.{largestCount, rowCount}
-use Rattle.files.specs.Records.{begun, tableOf}
+use Rattle.records.specs.Records.{begun, tableOf}
+use Rattle.records.proofs.Records.{length-table, count-table}
 use Rattle.files.specs.Files.{fileAnswer, readAnswer, readTable}
-use Rattle.files.proofs.Records.{length-table, count-table}
 use Rattle.files.proofs.Passing.{whole-read, read-whole, read-room}
 use Rattle.files.proofs.Calls.{after-fresh}
 use Rattle.files.proofs.Undo.{read-long}

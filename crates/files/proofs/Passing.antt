@@ -21,7 +21,7 @@ use Rattle.history.specs.Answer.{number, overfull, strange-record, Test, lowest
 use Rattle.history.specs.Screen.{wrongKind}
 use Rattle.history.proofs.Operations.{told-write, told-read}
 use Rattle.history.proofs.Refusals.{NoFault, Coded, coded-append, no-fault-append, no-fault-left, no-fault-right, code-no-fault, no-fault-answer, if-so, if-not}
-use Rattle.files.specs.Records.{field, begun, recordAt}
+use Rattle.records.specs.Records.{field, begun, recordAt}
 use Rattle.files.specs.Files.{atRecord, left, recordTests, fileTests, fileAnswer, roomTest, readTests, readAnswer, opsOf, writeTests, writeAnswer}
 use Rattle.files.proofs.Meeting.{met-stop, coded-in, no-fault-flat, flat-no-fault}
 

@@ -10,11 +10,11 @@ use Rattle.history.specs.declared.Row.{Row}
 use Rattle.history.specs.Table.{largestCount, rowAt, rowCount, operation, opAt}
 use Rattle.history.specs.Answer.{number, short-list, passed}
 use Rattle.history.specs.Screen.{wrongKind}
-use Rattle.files.specs.Records.{Bytes, Words, begun, recordAt, recordOf, cells, tableOf, fileOf}
+use Rattle.records.specs.Records.{Bytes, Words, begun, recordAt, recordOf, cells, tableOf, fileOf}
+use Rattle.records.proofs.Blocks.{blocks-whole}
+use Rattle.records.proofs.Records.{Fitting, row-cells, record-length, record-row, row-record, length-table, count-table, table-row, length-file, count-file, file-record}
 use Rattle.files.specs.Files.{fileAnswer, fileTests, readAnswer, readTable, writeAnswer, writeBytes}
-use Rattle.files.proofs.Blocks.{blocks-whole}
 use Rattle.files.proofs.Meeting.{met-code}
-use Rattle.files.proofs.Records.{Fitting, row-cells, record-length, record-row, row-record, length-table, count-table, table-row, length-file, count-file, file-record}
 use Rattle.files.proofs.Calls.{after-fresh, code-of}
 use Rattle.files.proofs.Passing.{Whole, Tabular, kind-small, file-codes, write-tabular, tabular-write, whole-read, read-whole, read-room}
 

@@ -14,7 +14,7 @@ use Rattle.history.specs.declared.Op.{Op}
 use Rattle.history.specs.Table.{largestCount, operation, opAt, rowCount}
 use Rattle.history.specs.Answer.{ragged, overfull, bad-kind, short-list, cut-record, strange-record, Test, test, ifSo, lowestRow, firstMet, passed}
 use Rattle.history.specs.Screen.{wrongKind}
-use Rattle.files.specs.Records.{field, bodyLength, recordLength, begun, recordAt, tableOf, fileOf}
+use Rattle.records.specs.Records.{field, bodyLength, recordLength, begun, recordAt, tableOf, fileOf}
 
 -- A condition on record n, whose row field is the record's offset (01's table, 16 and 17).
 abbrev pub atRecord : ℕ → Bool → Found

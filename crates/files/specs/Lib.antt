@@ -1,3 +1,2 @@
--- History files: their bytes and what is asked of them, in the sequence of document 01.
-pub mod Records
+-- History files: what is asked of them.
 pub mod Files

@@ -6,90 +6,17 @@ use lists::Found;
 ghost use mathlib.Core.Path.{_≡_};
 ghost use mathlib.Core.Bool.{not, _||_};
 ghost use mathlib.Core.List.{[], _∷_, _++_};
-ghost use Prim.Native.Nat.{_+_, _*_, _%_, _≤_, _<_};
+ghost use Prim.Native.Nat.{_*_, _≤_, _<_};
 ghost use lib.Dec.{eqb};
 ghost use lib.ListN.{length, drop};
-ghost use lib.Seq.{sets};
-ghost use Rattle.history.specs.Table.{rowAt, rowCount};
+ghost use Rattle.history.specs.Table.{rowCount};
 ghost use Rattle.history.specs.Answer.{firstMet, passed, lowestRow};
 ghost use Rattle.history.specs.Screen.{wrongKind};
-ghost use Rattle.files.specs.Records.{littleEndian, field, begun, recordAt, recordOf, cells, tableOf, fileOf};
+ghost use Rattle.records.specs.Records.{begun, tableOf, fileOf};
 ghost use Rattle.files.specs.Files.{recordTests, fileAnswer, roomTest, readAnswer, readTable, opsOf, writeTests, writeAnswer, writeBytes, WritesBack, ReadsBack};
 
 // A file of so many bytes has a whole 1,025th record, so that a longer one need not be looked at.
 pub const LONGEST: usize = 36900;
-
-// The bytes of a record, with its length field.
-pub const RECORD: usize = 36;
-
-// What the length field holds: the bytes behind it.
-const BODY: u64 = 34;
-
-fn wide(x: u8) -> u64
-    ensures { λ r. ⌜ (r ≡ x) × (r < 256) ⌝ }
-{
-    x as u64
-}
-
-// The number of two bytes at a place, which the caller keeps within the slice.
-pub fn two(bytes: &[u8], at: usize) -> u64
-    requires { ⌜ at + 2 ≤ length (now bytes) ⌝ }
-    ensures { λ r. ⌜ r ≡ field (now (bytes .entry)) at 2 ⌝ }
-{
-    wide(bytes[at]) + 256 * wide(bytes[at + 1])
-}
-
-// The number of eight bytes at a place, from the highest byte down.
-pub fn eight(bytes: &[u8], at: usize) -> u64
-    requires { ⌜ at + 8 ≤ length (now bytes) ⌝ }
-    ensures { λ r. ⌜ r ≡ field (now (bytes .entry)) at 8 ⌝ }
-{
-    let h = wide(bytes[at + 7]);
-    let g = wide(bytes[at + 6]) + 256 * h;
-    let f = wide(bytes[at + 5]) + 256 * g;
-    let e = wide(bytes[at + 4]) + 256 * f;
-    let d = wide(bytes[at + 3]) + 256 * e;
-    let c = wide(bytes[at + 2]) + 256 * d;
-    let b = wide(bytes[at + 1]) + 256 * c;
-    wide(bytes[at]) + 256 * b
-}
-
-fn low(x: u64) -> u8
-    ensures { λ r. ⌜ r ≡ x % 256 ⌝ }
-{
-    (x % 256) as u8
-}
-
-// Stores a number's two low bytes.
-fn put_two(bytes: &mut [u8], at: usize, x: u64)
-    requires { ⌜ at + 2 ≤ length (now bytes) ⌝ }
-    ensures { λ _. ⌜ now (bytes .exit) ≡ sets (now (bytes .entry)) at (littleEndian 2 x) ⌝ }
-{
-    bytes[at] = low(x);
-    bytes[at + 1] = low(x / 256);
-}
-
-// Stores a number's eight bytes, the lowest first.
-fn put_eight(bytes: &mut [u8], at: usize, x: u64)
-    requires { ⌜ at + 8 ≤ length (now bytes) ⌝ }
-    ensures { λ _. ⌜ now (bytes .exit) ≡ sets (now (bytes .entry)) at (littleEndian 8 x) ⌝ }
-{
-    let b = x / 256;
-    let c = b / 256;
-    let d = c / 256;
-    let e = d / 256;
-    let f = e / 256;
-    let g = f / 256;
-    let h = g / 256;
-    bytes[at] = low(x);
-    bytes[at + 1] = low(b);
-    bytes[at + 2] = low(c);
-    bytes[at + 3] = low(d);
-    bytes[at + 4] = low(e);
-    bytes[at + 5] = low(f);
-    bytes[at + 6] = low(g);
-    bytes[at + 7] = low(h);
-}
 
 fn wrong_kind(kind: u64) -> bool
     ensures { λ r. ⌜ r ≡ not (eqb kind 1 || eqb kind 2) ⌝ }
@@ -104,7 +31,7 @@ fn wrong_kind(kind: u64) -> bool
 pub fn begun(bytes: &[u8]) -> usize
     ensures { λ r. ⌜ r ≡ begun (now (bytes .entry)) ⌝ }
 {
-    (bytes.len() + 35) / RECORD
+    (bytes.len() + 35) / records::RECORD
 }
 
 // The tests at a record that begins in the bytes; code 0 and the rows where none is met.
@@ -112,18 +39,18 @@ fn inspect_record(bytes: &[u8], row: usize, rows: u64) -> Answer
     requires { ⌜ row * 36 < length (now bytes) ⌝ }
     ensures { λ r. ⌜ r ≡ firstMet (recordTests (now (bytes .entry)) row) (passed rows) ⌝ }
 {
-    let at = row * RECORD;
+    let at = row * records::RECORD;
     let left = bytes.len() - at;
     if left == 1 {
         return Answer::refused(Answer::CUT_RECORD, at as u64);
     }
-    if two(bytes, at) != BODY {
+    if records::two(bytes, at) != records::BODY {
         return Answer::refused(Answer::STRANGE_RECORD, at as u64);
     }
-    if left < RECORD {
+    if left < records::RECORD {
         return Answer::refused(Answer::CUT_RECORD, at as u64);
     }
-    if wrong_kind(two(bytes, at + 2)) {
+    if wrong_kind(records::two(bytes, at + 2)) {
         return Answer::refused(Answer::STRANGE_RECORD, at as u64);
     }
     if Row::LARGEST_COUNT <= row {
@@ -158,21 +85,6 @@ pub fn room_for(rows: usize, needed: usize, room: usize) -> Answer
     Answer::passed(rows as u64)
 }
 
-// Puts the five numbers of the source record at a row of the table.
-pub fn read_row(bytes: &[u8], source: usize, table: &mut [u64], row: usize)
-    requires { ⌜ source * 36 + 36 ≤ length (now bytes) ⌝ }
-    requires { ⌜ row * 5 + 5 ≤ length (now table) ⌝ }
-    ensures { λ _. ⌜ now (table .exit) ≡ sets (now (table .entry)) (row * 5) (cells (recordAt (now (bytes .entry)) source)) ⌝ }
-{
-    let at = source * RECORD;
-    let base = row * Row::COLUMNS;
-    table[base + Row::REGISTER] = eight(bytes, at + 4);
-    table[base + Row::KIND] = two(bytes, at + 2);
-    table[base + Row::VALUE] = eight(bytes, at + 12);
-    table[base + Row::START] = eight(bytes, at + 20);
-    table[base + Row::FINISH] = eight(bytes, at + 28);
-}
-
 // Puts the rows of whole records at the front of the table.
 fn read_rows(bytes: &[u8], table: &mut [u64])
     requires { ⌜ length (now bytes) ≡ begun (now bytes) * 36 ⌝ }
@@ -182,7 +94,7 @@ fn read_rows(bytes: &[u8], table: &mut [u64])
     let n = begun(bytes);
     let mut i = 0;
     while i < n {
-        read_row(bytes, i, table, i);
+        records::read_row(bytes, i, table, i);
         i += 1;
     }
 }
@@ -233,24 +145,8 @@ fn examine(table: &[u64], room: usize) -> Answer
     }
     match lowest_wrong(table) {
         Found::At(row) => Answer::refused(Answer::BAD_KIND, row as u64),
-        Found::Nothing => room_for(rows, rows * RECORD, room),
+        Found::Nothing => room_for(rows, rows * records::RECORD, room),
     }
-}
-
-// Puts a row of the table into its record.
-fn write_row(table: &[u64], row: usize, bytes: &mut [u8])
-    requires { ⌜ row * 5 + 5 ≤ length (now table) ⌝ }
-    requires { ⌜ row * 36 + 36 ≤ length (now bytes) ⌝ }
-    ensures { λ _. ⌜ now (bytes .exit) ≡ sets (now (bytes .entry)) (row * 36) (recordOf (rowAt (now (table .entry)) row)) ⌝ }
-{
-    let base = row * Row::COLUMNS;
-    let at = row * RECORD;
-    put_two(bytes, at, BODY);
-    put_two(bytes, at + 2, table[base + Row::KIND]);
-    put_eight(bytes, at + 4, table[base + Row::REGISTER]);
-    put_eight(bytes, at + 12, table[base + Row::VALUE]);
-    put_eight(bytes, at + 20, table[base + Row::START]);
-    put_eight(bytes, at + 28, table[base + Row::FINISH]);
 }
 
 // Puts the records of a table's rows at the front of the bytes.
@@ -261,7 +157,7 @@ fn write_rows(table: &[u64], bytes: &mut [u8])
     let n = table.len() / Row::COLUMNS;
     let mut i = 0;
     while i < n {
-        write_row(table, i, bytes);
+        records::write_row(table, i, bytes);
         i += 1;
     }
 }

@@ -9,7 +9,7 @@ use lib.ListN.{length}
 use borrow.Author.Tests.{eq-eqb, ne-eqb}
 use Rattle.history.specs.declared.Answer.{Answer}
 use Rattle.history.specs.Answer.{number, short-list}
-use Rattle.files.specs.Records.{tableOf}
+use Rattle.records.specs.Records.{tableOf}
 use Rattle.files.specs.Files.{fileAnswer}
 use Rattle.files.proofs.Passing.{whole-answer}
 use Rattle.files.proofs.Undo.{file-fits}

@@ -7,7 +7,7 @@ use mathlib.Core.Bool.{cond}
 use mathlib.Core.List.{List}
 use lib.Dec.{eqb}
 use Rattle.history.specs.Answer.{number, fresh, short-list}
-use Rattle.files.specs.Records.{tableOf}
+use Rattle.records.specs.Records.{tableOf}
 use Rattle.files.specs.Files.{fileAnswer}
 use Rattle.marks.specs.Marks.{answerTo, mostTrials, Said}
 

@@ -6,7 +6,7 @@ ghost use mathlib.Core.Logic.{_≢_};
 ghost use Prim.Native.Nat.{_≤_};
 ghost use lib.ListN.{length};
 ghost use Rattle.history.specs.Answer.{number, short-list};
-ghost use Rattle.files.specs.Records.{tableOf};
+ghost use Rattle.records.specs.Records.{tableOf};
 ghost use Rattle.files.specs.Files.{fileAnswer};
 ghost use Rattle.marks.specs.Marks.{Said};
 ghost use Rattle.host.specs.Host.{hostCode, Given};

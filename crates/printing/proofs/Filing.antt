@@ -12,7 +12,7 @@ use borrow.Author.Tests.{eq-eqb, ne-eqb}
 use Rattle.history.specs.declared.Answer.{Answer}
 use Rattle.text.specs.Decimal.{line}
 use Rattle.text.proofs.Joins.{line-length}
-use Rattle.files.specs.Records.{tableOf}
+use Rattle.records.specs.Records.{tableOf}
 use Rattle.files.specs.Files.{fileAnswer}
 use Rattle.printing.specs.Texts.{refusedWord, refusedLine, textAnswer, textAfter, Printed}
 use Rattle.printing.specs.Files.{fileText}

@@ -8,7 +8,7 @@ ghost use lib.ListN.{length};
 ghost use lib.Seq.{sets};
 ghost use Rattle.history.specs.Table.{largestCount};
 ghost use Rattle.text.specs.Decimal.{linesOf};
-ghost use Rattle.files.specs.Records.{tableOf};
+ghost use Rattle.records.specs.Records.{tableOf};
 ghost use Rattle.summary.specs.Summary.{Meant};
 ghost use Rattle.printing.specs.Texts.{Printed};
 ghost use Rattle.printing.specs.Files.{fileText};

@@ -15,9 +15,9 @@ use Rattle.lists.proofs.Counts.{keep-length}
 use Rattle.lists.proofs.Ranges.{from-length}
 use Rattle.history.specs.declared.Answer.{Answer}
 use Rattle.history.specs.Answer.{number, short-list, firstMet, passed, refusedOr, ifSo}
-use Rattle.files.specs.Records.{begun, recordAt, cells}
+use Rattle.records.specs.Records.{begun, recordAt, cells}
+use Rattle.records.proofs.Blocks.{length-blocks}
 use Rattle.files.specs.Files.{fileAnswer}
-use Rattle.files.proofs.Blocks.{length-blocks}
 use Rattle.files.proofs.Passing.{Whole, code-whole}
 use Rattle.files.proofs.Calls.{after-fresh, code-of}
 use Rattle.selection.specs.Selected.{isOf, recordsOf, registerTable, selectAnswer, selectTable}

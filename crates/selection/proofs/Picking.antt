@@ -18,7 +18,7 @@ use Rattle.lists.proofs.Images.{keep-append}
 use Rattle.lists.proofs.Ranges.{up-to-more}
 use Rattle.history.specs.Table.{operation, isWrite, isRead}
 use Rattle.history.specs.Screen.{wrongKind}
-use Rattle.files.specs.Records.{field, begun, recordAt}
+use Rattle.records.specs.Records.{field, begun, recordAt}
 use Rattle.files.proofs.Passing.{Whole, kind-test}
 use Rattle.selection.specs.Selected.{isSound, isOf, recordsOf, Regular, Picks, is-picked}
 

@@ -17,9 +17,9 @@ use Rattle.lists.proofs.Ranges.{in-below, from-length, at-each}
 use Rattle.history.specs.declared.Answer.{Answer}
 use Rattle.history.specs.Answer.{Test, firstMet, passed}
 use Rattle.history.proofs.Refusals.{met-append, no-fault-answer, code-no-fault, if-so}
-use Rattle.files.specs.Records.{begun, recordAt, cells}
+use Rattle.records.specs.Records.{begun, recordAt, cells}
+use Rattle.records.proofs.Blocks.{blocks}
 use Rattle.files.specs.Files.{fileTests, fileAnswer, roomTest}
-use Rattle.files.proofs.Blocks.{blocks}
 use Rattle.files.proofs.Meeting.{met-kept}
 use Rattle.files.proofs.Passing.{Whole, whole-file, code-whole}
 use Rattle.files.proofs.Calls.{after-refused, after-fresh, code-of}

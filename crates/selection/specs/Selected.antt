@@ -10,7 +10,7 @@ use Rattle.lists.specs.Lists.{keep, upTo}
 use Rattle.history.specs.declared.Answer.{Answer}
 use Rattle.history.specs.Table.{largestCount}
 use Rattle.history.specs.Answer.{Test, firstMet, passed}
-use Rattle.files.specs.Records.{field, bodyLength, begun, recordAt, cells}
+use Rattle.records.specs.Records.{field, bodyLength, begun, recordAt, cells}
 use Rattle.files.specs.Files.{fileTests, roomTest, after}
 use Rattle.files.proofs.Passing.{Whole}
 use Rattle.selection.specs.declared.Picked.{Picked}

@@ -6,7 +6,7 @@ ghost use mathlib.Core.List.{_++_, flatMap};
 ghost use Prim.Native.Nat.{ℕ, _+_, _*_, _≤_, _<_};
 ghost use lib.ListN.{length, getD, drop};
 ghost use Rattle.history.specs.Table.{largestCount};
-ghost use Rattle.files.specs.Records.{begun, recordAt, cells};
+ghost use Rattle.records.specs.Records.{begun, recordAt, cells};
 ghost use Rattle.selection.specs.Selected.{isSound, isOf, Regular, Picks, selectAnswer, selectTable};
 
 // What the first four bytes of a sound record say as one number, the length 34 above the kind: the two kinds are neighbours.
@@ -19,8 +19,8 @@ fn is_sound(bytes: &[u8], row: usize) -> bool
     requires { ⌜ row * 36 + 36 ≤ length (now bytes) ⌝ }
     ensures { λ r. ⌜ r ≡ isSound (now (bytes .entry)) row ⌝ }
 {
-    let at = row * files::RECORD;
-    let head = files::two(bytes, at + 2) + 65536 * files::two(bytes, at);
+    let at = row * records::RECORD;
+    let head = records::two(bytes, at + 2) + 65536 * records::two(bytes, at);
     if head == WRITE_HEAD {
         return true;
     }
@@ -32,8 +32,8 @@ fn bears(bytes: &[u8], register: u64, row: usize) -> bool
     requires { ⌜ row * 36 + 36 ≤ length (now bytes) ⌝ }
     ensures { λ r. ⌜ r ≡ isOf (now (bytes .entry)) register row ⌝ }
 {
-    let at = row * files::RECORD;
-    files::eight(bytes, at + 4) == register
+    let at = row * records::RECORD;
+    records::eight(bytes, at + 4) == register
 }
 
 // How many records bear the register, where the file is sound.
@@ -77,7 +77,7 @@ fn choose(bytes: &[u8], register: u64, picks: &mut [u16]) -> Picked
     ensures { λ r. ⌜ Picks (now (bytes .entry)) register (now (picks .exit)) r ⌝ }
 {
     let n = files::begun(bytes);
-    if bytes.len() == n * files::RECORD {
+    if bytes.len() == n * records::RECORD {
         if n <= Row::LARGEST_COUNT {
             return pick(bytes, register, picks);
         }
@@ -96,7 +96,7 @@ fn copy(bytes: &[u8], picks: &[u16], table: &mut [u64])
 {
     let mut i: usize = 0;
     while i < picks.len() {
-        files::read_row(bytes, picks[i] as usize, table, i);
+        records::read_row(bytes, picks[i] as usize, table, i);
         i += 1;
     }
 }

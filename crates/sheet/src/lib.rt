@@ -3,7 +3,7 @@ use history::Answer;
 use history::Row;
 ghost use mathlib.Core.Path.{_≡_};
 ghost use lib.ListN.{length, replicate};
-ghost use Rattle.files.specs.Records.{tableOf};
+ghost use Rattle.records.specs.Records.{tableOf};
 ghost use Rattle.marks.specs.Marks.{mostTrials};
 ghost use Rattle.printing.specs.Texts.{Printed};
 ghost use Rattle.lines.specs.Lines.{Put, places};

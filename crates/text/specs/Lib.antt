@@ -1,3 +1,2 @@
--- Decimal text: what is printed, and what is read.
+-- Decimal text: what is printed.
 pub mod Decimal
-pub mod Numbers

@@ -8,7 +8,7 @@ use Rattle.lists.specs.Lists.{upTo}
 use Rattle.lists.proofs.Scans.{Scan, scan-none, scan-hit, scan-more, scan-end}
 use Rattle.history.specs.declared.Answer.{Answer}
 use Rattle.history.specs.Answer.{firstMet, passed}
-use Rattle.files.specs.Records.{begun}
+use Rattle.records.specs.Records.{begun}
 use Rattle.files.specs.Files.{recordTests, fileTests}
 use Rattle.files.proofs.Meeting.{met-stop, met-on}
 use Rattle.files.proofs.Passing.{record-coded}

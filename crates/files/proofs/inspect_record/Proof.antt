@@ -7,7 +7,7 @@ use borrow.Author.Needs.{needs}
 use Rattle.history.specs.Table.{largestCount, operation}
 use Rattle.history.specs.Answer.{firstMet}
 use Rattle.history.specs.Screen.{wrongKind}
-use Rattle.files.specs.Records.{field, recordAt}
+use Rattle.records.specs.Records.{field, recordAt}
 use Rattle.files.specs.Files.{left, recordTests}
 use Rattle.files.proofs.Passing.{kind-test, past-length}
 use Rattle.files.proofs.inspect_record.Statement.{statement}

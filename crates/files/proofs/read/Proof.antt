@@ -2,7 +2,7 @@
 use mathlib.Core.Path.{sym, _∙_}
 use native.Mathlib.Omega.{arith}
 use borrow.Author.Needs.{needs}
-use Rattle.files.specs.Records.{tableOf, Bytes}
+use Rattle.records.specs.Records.{tableOf, Bytes}
 use Rattle.files.specs.Files.{readAnswer, readTable}
 use Rattle.files.proofs.Calls.{after-refused, after-fresh, code-of, read-refused, read-judged}
 use Rattle.files.proofs.Passing.{read-whole}

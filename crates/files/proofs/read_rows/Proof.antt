@@ -5,9 +5,9 @@ use mathlib.Core.List.{List, _++_}
 use native.Mathlib.Omega.{arith}
 use lib.ListN.{length, drop}
 use borrow.Author.Needs.{needs}
-use Rattle.files.specs.Records.{recordAt, cells, tableOf}
-use Rattle.files.proofs.Blocks.{blocks, length-blocks}
-use Rattle.files.proofs.Storing.{Filling, fill-none, fill-long, fill-more, fill-end}
+use Rattle.records.specs.Records.{recordAt, cells, tableOf}
+use Rattle.records.proofs.Blocks.{blocks, length-blocks}
+use Rattle.files.proofs.Filling.{Filling, fill-none, fill-long, fill-more, fill-end}
 use Rattle.files.proofs.read_rows.Statement.{statement}
 use Rattle.files.proofs.read_rows.Tie as tie
 

@@ -2,7 +2,7 @@
 use mathlib.Core.Path.{_≡_, sym, _∙_}
 use native.Mathlib.Omega.{arith}
 use borrow.Author.Needs.{needs}
-use Rattle.files.specs.Records.{fileOf, Words}
+use Rattle.records.specs.Records.{fileOf, Words}
 use Rattle.files.specs.Files.{writeAnswer, writeBytes}
 use Rattle.files.proofs.Calls.{after-refused, after-fresh, code-of}
 use Rattle.files.proofs.Passing.{write-tabular}

@@ -2,10 +2,10 @@
 use Prim.Native.Nat.{ℕ, _-_}
 use native.Mathlib.Omega.{arith}
 use Rattle.history.specs.Table.{rowAt, rowCount}
-use Rattle.files.specs.Records.{recordOf, fileOf}
-use Rattle.files.proofs.Blocks.{length-blocks}
-use Rattle.files.proofs.Records.{length-record}
-use Rattle.files.proofs.Storing.{Filling, fill-none, fill-long, fill-more, fill-end}
+use Rattle.records.specs.Records.{recordOf, fileOf}
+use Rattle.records.proofs.Blocks.{length-blocks}
+use Rattle.records.proofs.Records.{length-record}
+use Rattle.files.proofs.Filling.{Filling, fill-none, fill-long, fill-more, fill-end}
 use Rattle.files.proofs.write_rows.Statement.{statement}
 use Rattle.files.proofs.write_rows.Tie as tie
 

@@ -1,6 +1,6 @@
 -- The field is the record's register.
 use mathlib.Core.Path.{refl}
-use Rattle.files.specs.Records.{recordAt}
+use Rattle.records.specs.Records.{recordAt}
 use Rattle.selection.specs.Selected.{isOf}
 use borrow.Author.Needs.{needs}
 use Rattle.selection.proofs.bears.Statement.{statement}

@@ -4,9 +4,9 @@ use mathlib.Core.Path.{refl, ap, _∙_}
 use mathlib.Core.List.{List, _++_}
 use native.Mathlib.Omega.{arith}
 use lib.ListN.{length, getD, drop}
-use Rattle.files.specs.Records.{recordAt, cells}
-use Rattle.files.proofs.Blocks.{length-blocks}
-use Rattle.files.proofs.Storing.{Filling, fill-none, fill-long, fill-more, fill-end}
+use Rattle.records.specs.Records.{recordAt, cells}
+use Rattle.records.proofs.Blocks.{length-blocks}
+use Rattle.files.proofs.Filling.{Filling, fill-none, fill-long, fill-more, fill-end}
 use Rattle.selection.proofs.Selecting.{flat-places}
 use Rattle.selection.proofs.copy.Statement.{statement}
 use Rattle.selection.proofs.copy.Tie as tie

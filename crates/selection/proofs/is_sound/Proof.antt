@@ -1,8 +1,8 @@
 -- The head's number has the length and the kind in it, since the kind is below 65,536 (`head-write`, `head-read`).
 use Prim.Native.Nat.{_+_, _*_}
 use native.Mathlib.Omega.{arith}
-use Rattle.files.specs.Records.{Bytes}
-use Rattle.files.proofs.Numbers.{field-below}
+use Rattle.records.specs.Records.{Bytes}
+use Rattle.records.proofs.Numbers.{field-below}
 use Rattle.selection.proofs.Picking.{head-write, head-read}
 use borrow.Author.Needs.{needs}
 use Rattle.selection.proofs.is_sound.Statement.{statement}

@@ -1,0 +1,2 @@
+-- Decimal text: what is read.
+pub mod Numbers
