@@ -1,7 +1,9 @@
 // The marking call: tests 1 to 10, and then the method of the question over the register's prepared history.
 use history::Answer;
 use history::Row;
+use placing::Search;
 ghost use mathlib.Core.Path.{_≡_};
+ghost use mathlib.Core.Logic.{_≢_};
 ghost use mathlib.Core.List.{List};
 ghost use Prim.Native.Nat.{ℕ, _≤_};
 ghost use lib.ListN.{length};
@@ -11,8 +13,11 @@ ghost use Rattle.methods.specs.Prepared.{prepared};
 ghost use Rattle.methods.specs.Mark.{noQuestion, method, judged, markTests, mark};
 ghost use Rattle.meaning.specs.Marked.{Passes};
 ghost use Rattle.meaning.specs.Demand.{Demand};
+ghost use Rattle.positions.specs.Columns.{cols, Sound};
+ghost use Rattle.placing.specs.Searched.{findingOf, Searched};
 ghost use Rattle.columns.specs.Rows.{Listed};
 ghost use Rattle.columns.specs.Made.{Room};
+ghost use Rattle.joining.specs.Items.{Known};
 ghost use Rattle.searches.specs.Replies.{outcome};
 ghost use Rattle.marker.specs.Called.{Asked};
 
@@ -52,6 +57,29 @@ fn refusal(table: &[u64], register: u64, question: u64, room: usize) -> Answer
     nine
 }
 
+// The search by zones, or by FZF, into a lent order.
+fn search(
+    start: &[u64],
+    finish: &[u64],
+    writer: &[u64],
+    last: &[u64],
+    prev: &[u64],
+    question: u64,
+    order: &mut [u64],
+) -> Search
+    requires { ⌜ Sound (cols (now start) (now finish) (now writer) (now last) (now prev)) ⌝ }
+    requires { ⌜ length (now start) ≤ largestCount ⌝ }
+    requires { ⌜ Known (cols (now start) (now finish) (now writer) (now last) (now prev)) ⌝ }
+    requires { ⌜ question ≢ 2 ⌝ }
+    requires { ⌜ length (now start) ≤ length (now order) ⌝ }
+    ensures { λ r. ⌜ ((allowance : ℕ) → Searched (cols (now (start .entry)) (now (finish .entry)) (now (writer .entry)) (now (last .entry)) (now (prev .entry))) allowance (method question) (findingOf (now (order .exit)) r)) ⌝ }
+{
+    if question == ZONES {
+        return zones::search(start, finish, writer, last, prev, order);
+    }
+    fzf::search(start, finish, writer, last, prev, order)
+}
+
 // The mark of a screened register, from its rows by rising start and a place for each in the other slices.
 fn work(
     table: &[u64],
@@ -79,7 +107,7 @@ fn work(
         let walked = searches::walk(start, finish, writer, last, prev, allowance);
         return searches::answer_walk(walked, rows, allowance, list);
     }
-    let found = searches::search(start, finish, writer, last, prev, question, order);
+    let found = search(start, finish, writer, last, prev, question, order);
     searches::answer(found, order, rows, allowance, list)
 }
 

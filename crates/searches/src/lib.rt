@@ -1,22 +1,17 @@
-// The search of a question over a prepared history in columns, and the answer to what was found, with the order's rows in the lent list.
+// LBT over a prepared history in columns, with its candidates by falling finish; and the answer to what a search found, with the order's rows in the lent list.
 use history::Answer;
 use history::Row;
 use lbt::Walked;
 use placing::Search;
-ghost use mathlib.Core.Logic.{_≢_};
-ghost use Prim.Native.Nat.{ℕ, _≤_};
+ghost use Prim.Native.Nat.{_≤_};
 ghost use lib.ListN.{length};
 ghost use Rattle.history.specs.Table.{largestCount};
 ghost use Rattle.methods.specs.Lbt.{lbt};
-ghost use Rattle.methods.specs.Mark.{walked, method};
+ghost use Rattle.methods.specs.Mark.{walked};
 ghost use Rattle.positions.specs.Columns.{cols, Sound};
 ghost use Rattle.placing.specs.Searched.{findingOf, Searched};
 ghost use Rattle.lbt.specs.Rounds.{findingIn};
-ghost use Rattle.joining.specs.Items.{Known};
 ghost use Rattle.searches.specs.Replies.{outcome, Fits, Replied};
-
-// The question that zones answer.
-const ZONES: u64 = 1;
 
 // So many rows are few: short arrays do for them, which are sooner cleared than the long ones.
 const FEW: usize = 32;
@@ -59,29 +54,6 @@ pub fn walk(
     }
     let mut falling = [0u64; Row::LARGEST_COUNT];
     walk_with(start, finish, writer, last, prev, allowance, &mut falling)
-}
-
-// The search by zones, or by FZF, into a lent order.
-pub fn search(
-    start: &[u64],
-    finish: &[u64],
-    writer: &[u64],
-    last: &[u64],
-    prev: &[u64],
-    question: u64,
-    order: &mut [u64],
-) -> Search
-    requires { ⌜ Sound (cols (now start) (now finish) (now writer) (now last) (now prev)) ⌝ }
-    requires { ⌜ length (now start) ≤ largestCount ⌝ }
-    requires { ⌜ Known (cols (now start) (now finish) (now writer) (now last) (now prev)) ⌝ }
-    requires { ⌜ question ≢ 2 ⌝ }
-    requires { ⌜ length (now start) ≤ length (now order) ⌝ }
-    ensures { λ r. ⌜ ((allowance : ℕ) → Searched (cols (now (start .entry)) (now (finish .entry)) (now (writer .entry)) (now (last .entry)) (now (prev .entry))) allowance (method question) (findingOf (now (order .exit)) r)) ⌝ }
-{
-    if question == ZONES {
-        return zones::search(start, finish, writer, last, prev, order);
-    }
-    fzf::search(start, finish, writer, last, prev, order)
 }
 
 // The answer to what was found, and the order's rows at the front of the list where it is fresh.

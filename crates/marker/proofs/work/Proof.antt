@@ -2,7 +2,7 @@
 use native.Mathlib.Omega.{arith}
 use Rattle.methods.specs.Lbt.{lbt}
 use Rattle.methods.specs.Mark.{walked}
-use Rattle.searches.proofs.Answering.{searched-by, method-two}
+use Rattle.marker.proofs.Asking.{searched-by, method-two}
 use Rattle.marker.proofs.Working.{search-takes, made-size, found-fits, work-ends}
 use borrow.Author.Needs.{needs}
 use Rattle.marker.proofs.work.Statement.{statement}

@@ -2,10 +2,10 @@
 use Rattle.methods.specs.Zones.{zones}
 use Rattle.methods.specs.Fzf.{fzf}
 use Rattle.methods.specs.Mark.{untried}
-use Rattle.searches.proofs.Answering.{searched-by, method-one, method-three}
+use Rattle.marker.proofs.Asking.{searched-by, method-one, method-three}
 use borrow.Author.Needs.{needs}
-use Rattle.searches.proofs.search.Statement.{statement}
-use Rattle.searches.proofs.search.Tie as tie
+use Rattle.marker.proofs.search.Statement.{statement}
+use Rattle.marker.proofs.search.Tie as tie
 
 search-requires : tie.Need-search-requires
 search-requires c κs = search needs
