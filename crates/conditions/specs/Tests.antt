@@ -18,6 +18,7 @@ use Rattle.writers.specs.Writers.{Within, writerOf, rowOp}
 use Rattle.conditions.specs.declared.RowTest.{RowTest}
 use Rattle.conditions.specs.declared.RowTest.the-variants.{Kind, Span, Shared, Twin, Orphan, Early}
 
+-- the code of each test
 abbrev pub codeOf : RowTest → Code
 codeOf Kind = bad-kind
 codeOf Span = bad-span
@@ -26,6 +27,7 @@ codeOf Twin = twin-write
 codeOf Orphan = orphan-read
 codeOf Early = early-read
 
+-- what each test asks of an operation among those of its register
 unfoldable pub condition : RowTest → List Op → Op → Bool
 condition Kind h = wrongKind
 condition Span h = wrongSpan
@@ -34,6 +36,7 @@ condition Twin h = rewrites h
 condition Orphan h = unwritten h
 condition Early h = tooEarly h
 
+-- a test, with the lowest row that meets its condition
 abbrev pub rowTest : List Op → RowTest → Test
 rowTest h x = test (codeOf x) (lowestRow (condition x h) h)
 
@@ -65,6 +68,7 @@ shows Early t rows column i =
 abbrev pub lowestAt : (ℕ → Bool) → List ℕ → Found
 lowestAt p rows = first (λ i. getD rows i 0) p (upTo (length rows))
 
+-- a test as the code runs it, by what it looks at
 abbrev pub shownTest : List ℕ → List ℕ → List ℕ → RowTest → Test
 shownTest t rows column x = test (codeOf x) (lowestAt (shows x t rows column) rows)
 

@@ -9,5 +9,6 @@ use Rattle.records.specs.Records.{tableOf}
 use Rattle.files.specs.Files.{fileAnswer}
 use Rattle.printing.specs.Texts.{refusedLine}
 
+-- the text of the table where reading takes the file, else the line of the refusal
 unfoldable pub fileText : List ℕ → (List ℕ → List ℕ) → List ℕ
 fileText bytes text = cond (eqb (fileAnswer bytes .code) (number fresh)) (text (tableOf bytes)) (refusedLine (fileAnswer bytes))

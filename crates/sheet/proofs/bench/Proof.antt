@@ -1,5 +1,5 @@
-use Rattle.sheet.proofs.Showing.{shown}
 -- The file is refused, or its table's sheet is printed.
+use Rattle.sheet.proofs.Showing.{shown}
 use native.Mathlib.Omega.{arith}
 use borrow.Author.Needs.{needs}
 use Rattle.files.proofs.Loading.{loaded-as, loaded-small, loaded-front, loaded-in, loaded-long}

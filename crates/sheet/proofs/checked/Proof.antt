@@ -1,5 +1,5 @@
-use Rattle.sheet.proofs.Showing.{shown, told}
 -- The sheet and the check are two parts of one text, which the buffer inside holds.
+use Rattle.sheet.proofs.Showing.{shown, told}
 use Prim.Native.Nat.{ℕ}
 use mathlib.Core.Path.{sym}
 use native.Mathlib.Omega.{arith}

@@ -1,5 +1,5 @@
-use Rattle.sheet.proofs.Showing.{shown, told}
 -- The file is refused, or its table's sheet and check are printed.
+use Rattle.sheet.proofs.Showing.{shown, told}
 use native.Mathlib.Omega.{arith}
 use borrow.Author.Needs.{needs}
 use Rattle.files.proofs.Loading.{loaded-as, loaded-small, loaded-front, loaded-in, loaded-long}

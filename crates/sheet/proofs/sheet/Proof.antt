@@ -1,5 +1,5 @@
-use Rattle.sheet.proofs.Showing.{shown}
 -- The buffer inside holds every sheet.
+use Rattle.sheet.proofs.Showing.{shown}
 use Prim.Native.Nat.{ℕ}
 use mathlib.Core.Path.{sym}
 use native.Mathlib.Omega.{arith}
