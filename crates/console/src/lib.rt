@@ -4,11 +4,10 @@ use libc::STDOUT_FILENO;
 use parsing::Count;
 use parsing::Number;
 ghost use mathlib.Core.Path.{_≡_};
-ghost use mathlib.Core.List.{List};
-ghost use Prim.Native.Nat.{ℕ, _≤_};
 ghost use lib.ListN.{length};
 ghost use Rattle.io.specs.Counts.{Counts};
-ghost use Rattle.parsing.specs.Numbers.{numberIn};
+ghost use Rattle.parsing.specs.Numbers.{linesIn, stored};
+ghost use Rattle.console.specs.Listings.{listing, Taken};
 
 // How many bytes of an input stand at the front of the buffer, and whether no read failed.
 pub struct Input {
@@ -65,7 +64,9 @@ pub struct Listing {
 }
 
 fn listed(bytes: &[u8], list: &mut [u64]) -> Listing
-    ensures { λ r. ⌜ Counts (r .count) (now (list .exit)) ⌝ }
+    ensures within { λ r. ⌜ Counts (r .count) (now (list .exit)) ⌝ }
+    ensures answer { λ r. ⌜ r ≡ listing (linesIn (length (now (list .entry))) (now (bytes .entry))) ⌝ }
+    ensures list { λ _. ⌜ now (list .exit) ≡ stored (linesIn (length (now (list .entry))) (now (bytes .entry))) (now (list .entry)) ⌝ }
 {
     match parsing::list(bytes, list) {
         Count::Read(count) => Listing {
@@ -84,7 +85,8 @@ fn listed(bytes: &[u8], list: &mut [u64]) -> Listing
 // The row numbers in the file that an argument names, one a line, as many as the list holds. A line has at most 20 digits, so the numbers of
 // 1,025 lines stand in the first 21,525 bytes.
 pub fn take_rows(place: usize, list: &mut [u64]) -> Listing
-    ensures { λ r. ⌜ Counts (r .count) (now (list .exit)) ⌝ }
+    ensures within { λ r. ⌜ Counts (r .count) (now (list .exit)) ⌝ }
+    ensures taken { λ r. ⌜ Taken (now (list .entry)) r (now (list .exit)) ⌝ }
 {
     let mut path = io::buffer();
     let m = os::arg(place, &mut path);
@@ -101,10 +103,9 @@ pub fn take_rows(place: usize, list: &mut [u64]) -> Listing
     listed(&bytes[..n], list)
 }
 
-// The number that an argument is, or that it is none; of a word of at most 32 bytes.
-pub fn number(place: usize) -> Number
-    ensures { λ r. ⌜ ((word : List ℕ) × (length word ≤ 32) × (r ≡ numberIn word)) ⌝ }
-{
+// The number that an argument is, or that it is none. Nothing is promised: which bytes the system hands in no contract can say, and any number is
+// that of some bytes. What the bytes are worth is the contract of `number_in`.
+pub fn number(place: usize) -> Number {
     let mut word = [0u8; 32];
     let n = os::arg(place, &mut word);
     parsing::number_in(&word[..n])

@@ -1,6 +1,8 @@
 -- What the reading answers, by its two cases.
+use mathlib.Core.Path.{refl}
+use native.Mathlib.Omega.{arith}
 use borrow.Author.Needs.{needs}
-use Rattle.console.proofs.Reading.{read-counts}
+use Rattle.console.proofs.Reading.{read-counts, listing-read, listing-none}
 use Rattle.console.proofs.listed.Statement.{statement}
 use Rattle.console.proofs.listed.Tie as tie
 
@@ -17,13 +19,19 @@ same-length : tie.Need-same-length
 same-length c = search needs
 
 returns : tie.Need-returns
-returns c = let a = c .before .before .before .before .before .before .before .before .before .args in read-counts (a .list .now) (c .before .before .before .before .before .list .last .1 .0) (a .bytes .now) _ _ (c .before .before .before .before .before .list .ensures .0) (c .before .count .given .1) (c .before .before .before .before .before .list .kept .1 .0)
+returns c =
+    let a = c .before .before .before .before .before .before .before .before .before .args in
+    let l = c .before .before .before .before .before .list in
+    let n = c .before .count .given .1 in
+    (read-counts (a .list .now) (l .last .1 .0) (a .bytes .now) _ _ (l .ensures .0) n (l .kept .1 .0), (listing-read _ _ _ (l .ensures .0) n, l .ensures .1))
 
 same-length-2 : tie.Need-same-length-2
 same-length-2 c = search needs
 
 returns-2 : tie.Need-returns-2
-returns-2 c = search needs
+returns-2 c =
+    let l = c .before .before .before .before .list in
+    ((omega arith, refl), (listing-none _ _ (l .ensures .0) (c .enum-told .given .1), l .ensures .1))
 
 pub listed-spec : {M : Type 1} → statement M
 listed-spec =
