@@ -1,8 +1,8 @@
 /* Valgrist: the mark of one register of a history file, as a number.
  *
- * Link target/staticlib/libhost.a (made by `rt staticlib host`). The function is proved to give the code that is defined
- * for any bytes, register and question; it keeps no state, allocates nothing, keeps its arrays on the stack, and may be
- * called from several threads at once. */
+ * Link target/staticlib/libhost.a (made by `rt staticlib host`). The function is proved to give the code that is
+ * defined for any bytes, register and question; it keeps no state, allocates nothing, keeps its arrays on the stack,
+ * and may be called from several threads at once. */
 #ifndef VALGRIST_H
 #define VALGRIST_H
 
@@ -16,7 +16,7 @@ extern "C" {
 /* The questions. */
 enum valgrist_question {
     VALGRIST_ZONES = 1, /* is there a valid 1-atomic order? by zones */
-    VALGRIST_LBT = 2,   /* is there a valid 2-atomic order? by LBT, with 524,800 trials allowed, which is enough for every register */
+    VALGRIST_LBT = 2,   /* is there a valid 2-atomic order? by LBT, with 524,800 trials, enough for every register */
     VALGRIST_FZF = 3    /* is there a valid 2-atomic order? by FZF */
 };
 
@@ -40,8 +40,8 @@ enum valgrist_code {
 /* The bytes of stack that a call takes at the most: measured on 1,024 rows by tools/stack, and not proved. */
 enum { VALGRIST_STACK = 262144 };
 
-/* The code of the file's refusal (2, 16, 17), else the mark of the register by the question. `bytes` points to `length` bytes that can be read;
- * for an empty file any pointer that is not null. */
+/* The code of the file's refusal (2, 16, 17), else the mark of the register by the question. `bytes` points to
+ * `length` bytes that can be read; for an empty file any pointer that is not null. */
 uint64_t valgrist_mark(const uint8_t *bytes, size_t length, uint64_t register_number, uint64_t question);
 
 #ifdef __cplusplus

@@ -1,5 +1,6 @@
-/* The stack that a call of the entry takes: stack FILE... prints the most bytes over the files' first registers and the three questions, and the
- * file and the question. Each call runs in a thread whose stack was filled with a pattern; what an empty thread changes of it is taken off. */
+/* The stack that a call of the entry takes: stack FILE... prints the most bytes over the files' first registers and the
+ * three questions, and where it was. Each call runs in a thread whose stack was filled with a pattern; what an empty
+ * thread changes of it is taken off. */
 #include <pthread.h>
 #include <stdio.h>
 #include <stdlib.h>
@@ -31,8 +32,8 @@ static size_t changed(void *(*run)(void *), unsigned char *stack)
     pthread_t thread;
     size_t kept = 0;
     memset(stack, PATTERN, SIZE);
-    if (pthread_attr_init(&attributes) || pthread_attr_setstack(&attributes, stack, SIZE) || pthread_create(&thread, &attributes, run, NULL) ||
-        pthread_join(thread, NULL)) {
+    if (pthread_attr_init(&attributes) || pthread_attr_setstack(&attributes, stack, SIZE) ||
+        pthread_create(&thread, &attributes, run, NULL) || pthread_join(thread, NULL)) {
         fputs("stack: no thread can be run\n", stderr);
         exit(1);
     }
@@ -71,7 +72,9 @@ int main(int count, char **words)
             }
         }
     }
-    printf("%zu %s %d\n", most, where, (int)by);
+    if (strrchr(where, '/'))
+        where = strrchr(where, '/') + 1;
+    printf("%zu bytes at the most, in question %d of %s\n", most, (int)by, where);
     free(stack);
     return most <= VALGRIST_STACK ? 0 : 1;
 }
