@@ -1,4 +1,5 @@
-//! Links the proved library: the folder of libhost.a is target/staticlib of the repository, or VALGRIST_LIB.
+//! Links the proved library: the folder of libhost.a, and of libcalls.a, which `differ` names itself, is target/staticlib of the repository, or
+//! VALGRIST_LIB.
 use std::env;
 use std::path::PathBuf;
 
@@ -8,7 +9,9 @@ fn main() {
         Some(folder) => PathBuf::from(folder),
         None => PathBuf::from(env::var_os("CARGO_MANIFEST_DIR").expect("cargo names the package's folder")).join("../target/staticlib"),
     };
-    println!("cargo:rerun-if-changed={}", folder.join("libhost.a").display());
+    for library in ["libhost.a", "libcalls.a"] {
+        println!("cargo:rerun-if-changed={}", folder.join(library).display());
+    }
     println!("cargo:rustc-link-search=native={}", folder.display());
     println!("cargo:rustc-link-lib=static=host");
 }

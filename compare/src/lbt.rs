@@ -139,8 +139,8 @@ impl Walk<'_> {
     }
 }
 
-/// A 2-atomic order by LBT, with so many trials allowed.
-pub fn search(register: &Register, allowance: u64) -> Found {
+/// A 2-atomic order by LBT, with so many trials allowed, and the count of the trials made.
+pub fn search(register: &Register, allowance: u64) -> (Found, u64) {
     let mut walk = Walk::new(register);
     let mut trials = 0;
     // the remaining write that starts last is at or below this position
@@ -154,10 +154,10 @@ pub fn search(register: &Register, allowance: u64) -> Found {
         let mut candidate = walk.writes.next[head as usize];
         loop {
             if candidate == head || register.ops[candidate as usize].finish < starts {
-                return Found::Nothing;
+                return (Found::Nothing, trials);
             }
             if trials == allowance {
-                return Found::Spent;
+                return (Found::Spent, trials);
             }
             trials += 1;
             if walk.epoch(candidate) {
@@ -167,5 +167,5 @@ pub fn search(register: &Register, allowance: u64) -> Found {
         }
     }
     walk.placed.reverse();
-    Found::Order(walk.placed)
+    (Found::Order(walk.placed), trials)
 }

@@ -1,6 +1,9 @@
-//! The marking of register histories in plain Rust, written from the scope document and the paper alone, to compare the proved library with:
-//! `differ` compares the codes of random and damaged files, `speed` the times.
+//! The marking of register histories in plain Rust, to compare the proved library with: `differ` compares the calls, on random and on damaged
+//! input, `speed` the times. Written from the scope document and the paper, and where these leave something free (what the programs print beside
+//! the report, the numbers in text, one register of a file) from the pages of the repository.
 
+pub mod answer;
+pub mod calls;
 pub mod codes;
 pub mod damage;
 pub mod file;
@@ -11,7 +14,11 @@ pub mod library;
 pub mod order;
 pub mod random;
 pub mod register;
+mod screening;
 pub mod shapes;
+pub mod table;
+pub mod tables;
+pub mod text;
 mod zones;
 
 use codes::{FRESH, NO_SUCH_QUESTION, SPENT, STALE};
@@ -25,6 +32,19 @@ pub enum Found {
     Order(Vec<u32>),
     Nothing,
     Spent,
+}
+
+fn is_question(question: u64) -> bool {
+    (1..=3).contains(&question)
+}
+
+/// What the question's method finds in a register, and LBT's trials.
+fn search(register: &Register, question: u64, allowance: u64) -> (Found, u64) {
+    match question {
+        1 => (zones::search(register), 0),
+        2 => lbt::search(register, allowance),
+        _ => (fzf::search(register), 0),
+    }
 }
 
 /// The mark of a register: the code, and where it is fresh the order, as row numbers of the file.
@@ -47,17 +67,12 @@ pub fn marking(bytes: &[u8], register: u64, question: u64) -> Marking {
 }
 
 fn decide(bytes: &[u8], register: u64, question: u64) -> Result<Vec<u32>, u64> {
-    let rows = file::rows_of(bytes, register)?;
-    if !(1..=3).contains(&question) {
+    let rows = file::rows_of(bytes, register).map_err(|refusal| refusal.code)?;
+    if !is_question(question) {
         return Err(NO_SUCH_QUESTION);
     }
     let register = Register::screened(&rows)?;
-    let found = match question {
-        1 => zones::search(&register),
-        2 => lbt::search(&register, ALLOWANCE),
-        _ => fzf::search(&register),
-    };
-    match found {
+    match search(&register, question, ALLOWANCE).0 {
         Found::Order(mut order) => {
             for place in &mut order {
                 *place = register.ops[*place as usize].row;

@@ -42,7 +42,7 @@ pub struct Zone {
 impl Register {
     /// The register of these rows, or the code of the first of tests 5 to 9 whose condition is met.
     pub fn screened(rows: &[Row]) -> Result<Register, u64> {
-        if rows.iter().any(|row| row.start >= row.finish || row.finish > LAST_STAMP) {
+        if rows.iter().any(bad_span) {
             return Err(BAD_SPAN);
         }
         let mut by_start: Vec<(u64, u32)> = rows.iter().zip(0..).map(|(row, at)| (row.start, at)).collect();
@@ -130,6 +130,11 @@ impl Register {
         order.push(cluster.write);
         order.extend_from_slice(self.reads(cluster));
     }
+}
+
+/// Whether a row's start is not below its finish, or its finish is too large.
+pub fn bad_span(row: &Row) -> bool {
+    row.start >= row.finish || row.finish > LAST_STAMP
 }
 
 /// Whether two of the stamps are equal; no row's own two are.

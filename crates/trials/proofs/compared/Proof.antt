@@ -6,10 +6,10 @@ use Rattle.trials.proofs.compared.Statement.{statement}
 use Rattle.trials.proofs.compared.Tie as tie
 
 abbrev Inv-loop : tie.InvT-loop
-Inv-loop question k tally₀ i₀ tally i = i ≤ 3000
+Inv-loop question k tally₀ i₀ tally i = i ≤ 3230
 
 abbrev μ-loop : tie.MeasureT-loop
-μ-loop question k tally₀ i₀ tally i = 3000 - i
+μ-loop question k tally₀ i₀ tally i = 3230 - i
 
 loop-holds : tie.Need-loop-holds Inv-loop μ-loop
 loop-holds c = omega arith

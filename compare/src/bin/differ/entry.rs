@@ -1,0 +1,144 @@
+//! The entry for a C host on random files, sound ones and damaged ones. The plain side is held to the order check, and for small registers to a
+//! trial of all orders.
+
+use std::process::exit;
+
+use compare::codes::{FRESH, STALE};
+use compare::damage::damage;
+use compare::file::{rows_of, Row, RECORD};
+use compare::random::Random;
+use compare::{histories, library, marking, order, shapes, Marking};
+
+use crate::tally::Tally;
+
+/// The codes that a call on a file's bytes can give.
+const CODES: [u64; 11] = [0, 2, 3, 5, 6, 7, 8, 9, 12, 16, 17];
+/// The largest register whose orders are all tried.
+const SMALL: usize = 6;
+
+#[derive(Default)]
+pub struct Counts {
+    tally: Tally,
+    files: u64,
+    damaged: u64,
+    largest: usize,
+    /// the orders checked, and the marks held to all orders
+    orders: u64,
+    tried: u64,
+}
+
+/// A call on a file's bytes.
+struct Call<'a> {
+    bytes: &'a [u8],
+    register: u64,
+    question: u64,
+}
+
+impl Call<'_> {
+    fn shown(&self, what: &str) -> String {
+        let records = self.bytes.chunks(RECORD).map(|record| record.iter().map(|byte| format!("{byte:02x}")).collect::<String>() + "\n");
+        format!("{what}: register {}, question {}, {} bytes:\n{}", self.register, self.question, self.bytes.len(), records.collect::<String>())
+    }
+
+    fn fail(&self, what: &str) -> ! {
+        println!("{}", self.shown(what));
+        exit(1)
+    }
+
+    /// Holds a mark of the plain implementation to the order check, and to all orders where they are few.
+    fn hold(&self, plain: &Marking, counts: &mut Counts) {
+        if plain.code != FRESH && plain.code != STALE {
+            return;
+        }
+        let rows = rows_of(self.bytes, self.register).expect("a marked register has a sound file");
+        let k = if self.question == 1 { 1 } else { 2 };
+        if plain.code == FRESH {
+            counts.orders += 1;
+            let order: Vec<u64> = plain.order.iter().map(|&row| u64::from(row)).collect();
+            if !order::accepted(&rows, &order, k) {
+                self.fail("the plain implementation's order is not accepted");
+            }
+        }
+        if rows.len() <= SMALL {
+            counts.tried += 1;
+            if order::some_order(&rows, k) != (plain.code == FRESH) {
+                self.fail("the plain implementation's mark is not that of all orders");
+            }
+        }
+    }
+
+    fn compare(&self, counts: &mut Counts) {
+        let plain = marking(self.bytes, self.register, self.question);
+        let code = library::mark(self.bytes, self.register, self.question);
+        let what = || self.shown(&format!("the library says {code}, the plain implementation {}", plain.code));
+        counts.tally.add(plain.code, code == plain.code, what);
+        self.hold(&plain, counts);
+    }
+}
+
+/// The questions asked of a register: the three, and sometimes one that is none.
+fn questions(random: &mut Random) -> Vec<u64> {
+    let mut questions = vec![1, 2, 3];
+    match random.below(12) {
+        0 => questions.push(0),
+        1 => questions.push(4),
+        2 => questions.push(random.next()),
+        _ => {}
+    }
+    questions
+}
+
+/// A few of the file's registers, and sometimes one that it has not.
+fn registers(rows: &[(u64, Row)], random: &mut Random) -> Vec<u64> {
+    let mut registers: Vec<u64> = rows.iter().map(|&(register, _)| register).collect();
+    registers.sort_unstable();
+    registers.dedup();
+    random.shuffle(&mut registers);
+    registers.truncate(3);
+    if registers.is_empty() || random.one_in(10) {
+        registers.push(random.next());
+    }
+    registers
+}
+
+/// The calls on one file.
+fn compare_file(random: &mut Random, counts: &mut Counts) {
+    let rows = shapes::rows(random);
+    let mut bytes = histories::file(&rows);
+    if random.one_in(4) {
+        damage(&mut bytes, random);
+        counts.damaged += 1;
+    }
+    // of exactly the file's size, so that a memory checker sees a read outside
+    let bytes = bytes.into_boxed_slice();
+    counts.files += 1;
+    counts.largest = counts.largest.max(rows.len());
+    for register in registers(&rows, random) {
+        for question in questions(random) {
+            Call { bytes: &bytes, register, question }.compare(counts);
+        }
+    }
+}
+
+/// So many calls, or a few more.
+pub fn compare(calls: u64) -> Counts {
+    let mut random = Random::new(1);
+    let mut counts = Counts::default();
+    while counts.tally.calls < calls {
+        compare_file(&mut random, &mut counts);
+    }
+    counts
+}
+
+impl Counts {
+    /// Prints the entry's line; whether nothing differs and every code has come.
+    pub fn sound(&self) -> bool {
+        self.tally.sound("valgrist_mark", &CODES)
+    }
+
+    /// Prints what the entry's calls were made on, and what the plain side was held to.
+    pub fn print(&self) {
+        println!("valgrist_mark: {} files, of them damaged {}, of up to {} rows", self.files, self.damaged, self.largest);
+        println!("plain side: orders accepted {}, marks held to all orders {}", self.orders, self.tried);
+    }
+}

@@ -1,0 +1,134 @@
+//! The kinds of calls: what each is given, what its result needs, the codes that it can give, and the call on both sides.
+
+use compare::answer::Answer;
+use compare::file::{rows_of, RECORD};
+use compare::random::Random;
+use compare::table::{registers, COLUMNS};
+use compare::{calls, text};
+
+use crate::given::{self, Given};
+use crate::lent::{Lent, Needed};
+use crate::library;
+
+pub type Call = fn(&Given, &mut Lent) -> Answer;
+
+pub struct Kind {
+    pub name: &'static str,
+    pub codes: &'static [u64],
+    pub given: fn(&mut Random) -> Given,
+    pub needed: fn(&Given) -> Needed,
+    pub library: Call,
+    pub plain: Call,
+}
+
+/// A kind whose call has one name, and one list of arguments, on both sides.
+macro_rules! kind {
+    (
+        $name:literal gives $codes:expr, from $given:expr, needs $needed:expr;
+        |$g:ident, $lent:ident| $call:ident($($argument:expr),*)
+    ) => {
+        Kind {
+            name: $name,
+            codes: $codes,
+            given: $given,
+            needed: $needed,
+            library: |$g, $lent| library::$call($($argument),*),
+            plain: |$g, $lent| calls::$call($($argument),*),
+        }
+    };
+}
+
+const OF_FILES: &[u64] = &[0, 2, 10, 16, 17];
+const OF_TABLES: &[u64] = &[0, 1, 2, 10];
+/// There is room, or there is not.
+const OF_ROOM: &[u64] = &[0, 10];
+/// A text is a number, or a list of them, or it is none.
+const OF_NUMBERS: &[u64] = &[0, 1];
+
+fn nothing(_: &Given) -> Needed {
+    Needed::Nothing
+}
+
+fn printed(text: String) -> Needed {
+    Needed::Bytes(text.len())
+}
+
+pub const KINDS: [Kind; 18] = [
+    kind!(
+        "marker::mark" gives &[0, 1, 2, 3, 4, 5, 6, 7, 8, 9, 10, 11, 12], from given::of_register, needs |g| Needed::Numbers(g.rows());
+        |g, lent| mark(&g.table, g.register, g.question, g.allowance, &mut lent.numbers)
+    ),
+    kind!(
+        "marks::answer" gives &[0, 1, 2, 3, 4, 5, 6, 7, 8, 9, 11, 12], from given::of_register, needs nothing;
+        |g, _lent| answer(&g.table, g.register, g.question, g.allowance)
+    ),
+    kind!(
+        "orders::check" gives &[0, 1, 2, 3, 4, 5, 6, 7, 8, 9, 13, 14, 15], from given::of_order, needs nothing;
+        |g, _lent| check(&g.table, g.register, g.k, &g.list)
+    ),
+    kind!(
+        "screening::screen" gives &[0, 1, 2, 4, 5, 6, 7, 8, 9], from given::of_register, needs nothing;
+        |g, _lent| screen(&g.table, g.register)
+    ),
+    kind!(
+        "files::read" gives OF_FILES, from given::of_file, needs |g| Needed::Numbers(g.bytes.len() / RECORD * COLUMNS);
+        |g, lent| read(&g.bytes, &mut lent.numbers)
+    ),
+    kind!(
+        "selection::read" gives OF_FILES, from given::of_file_register, needs |g| Needed::Numbers(selected(g));
+        |g, lent| select(&g.bytes, g.register, &mut lent.numbers)
+    ),
+    kind!(
+        "files::write" gives &[0, 1, 2, 4, 10], from given::of_table, needs |g| Needed::Bytes(g.table.len() / COLUMNS * RECORD);
+        |g, lent| write(&g.table, &mut lent.bytes)
+    ),
+    kind!(
+        "summary::summary" gives OF_TABLES, from given::of_table, needs |g| Needed::Numbers(registers(&g.table).len() * COLUMNS);
+        |g, lent| summary(&g.table, &mut lent.numbers)
+    ),
+    kind!(
+        "report::report" gives OF_TABLES, from given::of_table, needs |g| printed(text::report_of(&g.table));
+        |g, lent| report(&g.table, &mut lent.bytes)
+    ),
+    kind!(
+        "report::road" gives OF_ROOM, from given::of_file, needs |g| printed(text::road_of(&g.bytes));
+        |g, lent| road(&g.bytes, &mut lent.bytes)
+    ),
+    kind!(
+        "sheet::sheet" gives OF_ROOM, from given::of_register, needs |g| printed(text::sheet_of(&g.table, g.register, g.allowance));
+        |g, lent| sheet(&g.table, g.register, g.allowance, &mut lent.bytes)
+    ),
+    kind!(
+        "sheet::checked" gives OF_ROOM, from given::of_order, needs |g| printed(text::checked_of(&g.table, g.register, g.k, &g.list));
+        |g, lent| checked(&g.table, g.register, g.k, &g.list, &mut lent.bytes)
+    ),
+    kind!(
+        "sheet::bench" gives OF_ROOM, from given::of_file_register, needs |g| printed(text::bench_of(&g.bytes, g.register, g.allowance));
+        |g, lent| bench(&g.bytes, g.register, g.allowance, &mut lent.bytes)
+    ),
+    kind!(
+        "sheet::exam" gives OF_ROOM, from given::of_file_order, needs |g| printed(text::exam_of(&g.bytes, g.register, g.k, &g.list));
+        |g, lent| exam(&g.bytes, g.register, g.k, &g.list, &mut lent.bytes)
+    ),
+    kind!(
+        "printing::refusal" gives OF_ROOM, from given::of_answer, needs |g| printed(text::refused_of(g.answer));
+        |g, lent| refusal(g.answer, &mut lent.bytes)
+    ),
+    kind!(
+        "Answer::write" gives OF_ROOM, from given::of_answer, needs |_| Needed::Numbers(4);
+        |g, lent| put_answer(g.answer, &mut lent.numbers)
+    ),
+    kind!(
+        "parsing::number_in" gives OF_NUMBERS, from given::of_number, needs nothing;
+        |g, _lent| number(&g.bytes)
+    ),
+    kind!(
+        "parsing::list" gives OF_NUMBERS, from given::of_lines, needs |_| Needed::Numbers(8);
+        |g, lent| numbers(&g.bytes, &mut lent.numbers)
+    ),
+];
+
+/// The numbers of the register's rows in a file.
+fn selected(given: &Given) -> usize {
+    rows_of(&given.bytes, given.register).map_or(0, |rows| rows.len() * COLUMNS)
+}

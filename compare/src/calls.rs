@@ -1,0 +1,146 @@
+//! The library's calls on tables, lists and buffers, in plain Rust, each by the name that it has in `differ`.
+
+use crate::answer::{put, Answer};
+use crate::codes::{FRESH, SHORT_LIST, SPENT, STALE};
+use crate::file::{push_record, table_of, MOST_ROWS};
+use crate::screening::screened;
+use crate::table::{self, row, whole, COLUMNS};
+use crate::text;
+use crate::{is_question, order, search, Found};
+
+/// An answer, whichever way it comes.
+fn either(answer: Result<Answer, Answer>) -> Answer {
+    answer.unwrap_or_else(|refusal| refusal)
+}
+
+pub fn mark(table: &[u64], register: u64, question: u64, allowance: u64, list: &mut [u64]) -> Answer {
+    either(marked(table, register, question, allowance, list))
+}
+
+fn marked(table: &[u64], register: u64, question: u64, allowance: u64, list: &mut [u64]) -> Result<Answer, Answer> {
+    let rows = table::rows_of(table, register, is_question(question))?;
+    let register = screened(&rows)?;
+    if list.len() < rows.len() {
+        return Err(Answer::refused(SHORT_LIST, 0));
+    }
+    let (found, trials) = search(&register, question, allowance);
+    let decided = |code| Answer { code, row: 0, rows: rows.len() as u64, trials };
+    Ok(match found {
+        Found::Order(order) => {
+            for (place, at) in list.iter_mut().zip(order) {
+                *place = u64::from(register.ops[at as usize].row);
+            }
+            decided(FRESH)
+        }
+        Found::Nothing => decided(STALE),
+        Found::Spent => Answer { code: SPENT, trials: allowance, ..Answer::default() },
+    })
+}
+
+/// The marking call with a list inside.
+pub fn answer(table: &[u64], register: u64, question: u64, allowance: u64) -> Answer {
+    mark(table, register, question, allowance, &mut [0; MOST_ROWS])
+}
+
+pub fn check(table: &[u64], register: u64, k: u64, list: &[u64]) -> Answer {
+    either(checked_order(table, register, k, list))
+}
+
+fn checked_order(table: &[u64], register: u64, k: u64, list: &[u64]) -> Result<Answer, Answer> {
+    let rows = table::rows_of(table, register, k > 0)?;
+    screened(&rows)?;
+    match order::fault(&rows, list, k) {
+        Some((code, at)) => Err(Answer::refused(code, at as u64)),
+        None => Ok(Answer::passed(rows.len() as u64)),
+    }
+}
+
+pub fn screen(table: &[u64], register: u64) -> Answer {
+    let rows = table::rows_of(table, register, true);
+    either(rows.and_then(|rows| screened(&rows).map(|_| Answer::passed(rows.len() as u64))))
+}
+
+pub fn read(bytes: &[u8], table: &mut [u64]) -> Answer {
+    either(table_of(bytes).and_then(|rows| put(&rows, table, rows.len() / COLUMNS)))
+}
+
+/// The rows of one register of a file.
+pub fn select(bytes: &[u8], register: u64, table: &mut [u64]) -> Answer {
+    either(table_of(bytes).and_then(|all| {
+        let rows: Vec<u64> = all.chunks(COLUMNS).filter(|cells| cells[0] == register).flatten().copied().collect();
+        put(&rows, table, rows.len() / COLUMNS)
+    }))
+}
+
+pub fn write(table: &[u64], bytes: &mut [u8]) -> Answer {
+    either(written(table).and_then(|file| put(&file, bytes, table.len() / COLUMNS)))
+}
+
+/// The file of a table.
+fn written(table: &[u64]) -> Result<Vec<u8>, Answer> {
+    whole(table)?;
+    let mut file = Vec::new();
+    for (number, cells) in (0..).zip(table.chunks(COLUMNS)) {
+        push_record(&mut file, cells[0], &row(number, cells)?);
+    }
+    Ok(file)
+}
+
+/// Five numbers a register; the answer has the count of registers.
+pub fn summary(table: &[u64], list: &mut [u64]) -> Answer {
+    either(whole(table).and_then(|()| {
+        let numbers = text::summary_of(table);
+        put(&numbers, list, numbers.len() / COLUMNS)
+    }))
+}
+
+/// A text at the front of a buffer; the answer has its length.
+fn print(text: &str, out: &mut [u8]) -> Answer {
+    either(put(text.as_bytes(), out, text.len()))
+}
+
+pub fn report(table: &[u64], out: &mut [u8]) -> Answer {
+    either(whole(table).map(|()| print(&text::report_of(table), out)))
+}
+
+pub fn road(bytes: &[u8], out: &mut [u8]) -> Answer {
+    print(&text::road_of(bytes), out)
+}
+
+pub fn sheet(table: &[u64], register: u64, allowance: u64, out: &mut [u8]) -> Answer {
+    print(&text::sheet_of(table, register, allowance), out)
+}
+
+pub fn checked(table: &[u64], register: u64, k: u64, list: &[u64], out: &mut [u8]) -> Answer {
+    print(&text::checked_of(table, register, k, list), out)
+}
+
+pub fn bench(bytes: &[u8], register: u64, allowance: u64, out: &mut [u8]) -> Answer {
+    print(&text::bench_of(bytes, register, allowance), out)
+}
+
+pub fn exam(bytes: &[u8], register: u64, k: u64, list: &[u64], out: &mut [u8]) -> Answer {
+    print(&text::exam_of(bytes, register, k, list), out)
+}
+
+pub fn refusal(answer: Answer, out: &mut [u8]) -> Answer {
+    print(&text::refused_of(answer), out)
+}
+
+/// The answer's four numbers at the front of a list.
+pub fn put_answer(answer: Answer, list: &mut [u64]) -> Answer {
+    either(put(&answer.numbers(), list, 0))
+}
+
+/// A text that is a number: code 0 and the number as the count; else code 1.
+pub fn number(text: &[u8]) -> Answer {
+    text::number_in(text).map_or(Answer::refused(1, 0), Answer::passed)
+}
+
+/// Numbers, one a line, until the text ends or the list is full: code 0 and their count; where a line is none, code 1.
+pub fn numbers(text: &[u8], list: &mut [u64]) -> Answer {
+    match text::numbers_in(text, list.len()) {
+        Some(numbers) => either(put(&numbers, list, numbers.len())),
+        None => Answer::refused(1, 0),
+    }
+}

@@ -1,0 +1,27 @@
+//! The screening with its row field: which row it is that a register is refused for.
+
+use std::collections::{HashMap, HashSet};
+
+use crate::answer::Answer;
+use crate::codes::{BAD_SPAN, ORPHAN_READ, SHARED_STAMP, TWIN_WRITE};
+use crate::file::Row;
+use crate::register::{bad_span, Register};
+
+/// The register of these rows, or the first of tests 5 to 9 whose condition is met.
+pub fn screened(rows: &[Row]) -> Result<Register, Answer> {
+    Register::screened(rows).map_err(|code| Answer::refused(code, u64::from(lowest(rows, code))))
+}
+
+/// The lowest row that meets the condition of a code from 5 to 9.
+fn lowest(rows: &[Row], code: u64) -> u32 {
+    let mut seen = HashSet::new();
+    let begun: HashMap<u64, u64> = rows.iter().filter(|row| row.write).map(|row| (row.value, row.start)).collect();
+    let found = rows.iter().find(|row| match code {
+        BAD_SPAN => bad_span(row),
+        SHARED_STAMP => [row.start, row.finish].iter().any(|&stamp| !seen.insert(stamp)),
+        TWIN_WRITE => row.write && !seen.insert(row.value),
+        ORPHAN_READ => !row.write && !begun.contains_key(&row.value),
+        _ => !row.write && row.finish < begun[&row.value],
+    });
+    found.expect("a register is refused for one of its rows").number
+}

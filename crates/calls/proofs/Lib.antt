@@ -1,0 +1,2 @@
+-- What the proofs of the exported calls share.
+mod Saying

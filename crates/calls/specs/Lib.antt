@@ -1,0 +1,2 @@
+-- What the exported calls leave.
+pub mod Calls
