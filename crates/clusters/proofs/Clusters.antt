@@ -24,6 +24,7 @@ use Rattle.witnesses.specs.Witness.{Witness}
 use Rattle.witnesses.proofs.Runs.{run-reads}
 use Rattle.witnesses.proofs.Extremes.{least-first, greatest-first, greatest-in, greatest-is}
 use Rattle.witnesses.proofs.Parts.{in-readsOf, readsOf-in, in-sequence, named, in-writes, Closed, prepared-keep}
+use Rattle.clusters.specs.Zones.{FirstFinish}
 
 -- two clusters
 abbrev pub Differ : Op → Op → Type 0
@@ -61,7 +62,7 @@ module _ {H : List Op} (g : Prepared H) where
       closed w r d e = let (v, m, q) = told-true (some-same ws r) e in true-told (some-same ws w) (v, m, d .same ∙ q)
 
   -- the smallest finish is that of the write, as its reads finish later
-  pub first-finish : {w : Op} → Write H w → firstFinish H w ≡ w .finish
+  pub first-finish : {w : Op} → Write H w → FirstFinish H w
   unfolding firstFinish
   first-finish {w} k = least-first (λ o. o .finish) (w .finish) (readsOf H w) (λ r m. omega (arith, g .first w r (in-readsOf H k m)))
 

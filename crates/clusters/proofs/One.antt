@@ -22,11 +22,12 @@ use Rattle.methods.specs.Fzf.{only}
 use Rattle.witnesses.specs.Histories.{Write, Prepared}
 use Rattle.witnesses.specs.Orders.{Orders}
 use Rattle.witnesses.specs.Witness.{Witness}
-use Rattle.witnesses.specs.Decides.{Decides, no-order, an-order}
+use Rattle.witnesses.specs.Decides.{no-order, an-order}
 use Rattle.witnesses.proofs.Parts.{in-writes, writes-in}
 use Rattle.witnesses.proofs.Positions.{orders-witness}
 use Rattle.witnesses.proofs.Near.{near-one}
 use Rattle.witnesses.proofs.Join.{joins}
+use Rattle.clusters.specs.Zones.{ZonesDecide}
 use Rattle.clusters.proofs.Clusters.{Differ, differ-sym, in-only, only-in, not-last, home, follows, cluster-orders, writes-apart, before-or-between}
 
 -- Two zones, the second forward, clash where each has its finish below the other's start: forward ones overlap, a backward one lies inside.
@@ -113,10 +114,10 @@ module _ {H : List Op} (g : Prepared H) where
           omega (arith, first kv kw (λ e. n (ap (λ o. o .value) (sym e))) (c .left), first kw kv (λ e. n (ap (λ o. o .value) e)) (c .right))
 
   -- THE ZONE METHOD'S THEOREM
-  pub zones-decides : Decides 1 H (zones H)
+  pub zones-decides : ZonesDecide H (zones H)
   unfolding zones
   zones-decides = go (isOne H) refl
     where
-      go : (b : Bool) → isOne H ≡ b → Decides 1 H (cond b (order (inOrder H)) none)
+      go : (b : Bool) → isOne H ≡ b → ZonesDecide H (cond b (order (inOrder H)) none)
       go true e = an-order (one-sound e)
       go false e = no-order (λ o h. both (one-complete (orders-witness (g .proper) h)) e)

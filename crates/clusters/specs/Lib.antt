@@ -1,1 +1,2 @@
--- No definitions of its own: the methods are defined in the crate of the methods.
+-- What the theorems about clusters and the zone method say; both are defined in the crate of the methods.
+pub mod Zones

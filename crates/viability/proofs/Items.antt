@@ -22,7 +22,8 @@ use Rattle.methods.specs.Fzf.{Run, forwards, Item, chunk, dangling, forwardWrit
 use Rattle.witnesses.specs.Histories.{Write, Prepared}
 use Rattle.chunks.proofs.Rising.{rising-least}
 use Rattle.clusters.proofs.Clusters.{Differ, differ-sym, not-last}
-use Rattle.viability.proofs.Runs.{IsRun, in-forward, in-backward, forward-or-backward, backward-apart, all-runs}
+use Rattle.viability.specs.Runs.{IsRun}
+use Rattle.viability.proofs.Runs.{in-forward, in-backward, forward-or-backward, backward-apart, all-runs}
 
 module _ (H : List Op) where
   -- the clusters of i may come before those of j

@@ -24,6 +24,7 @@ use Rattle.methods.specs.Fzf.{Run, forwards, newRun, extend, grow, runs, forwar
 use Rattle.witnesses.specs.Histories.{Write, Prepared}
 use Rattle.witnesses.proofs.Parts.{in-writes, writes-in}
 use Rattle.chunks.specs.Chunk.{Rising}
+use Rattle.viability.specs.Runs.{Forward, IsRun}
 use Rattle.clusters.proofs.Clusters.{Differ, differ-sym, first-finish, writes-apart}
 
 -- what holds of a list's elements and of one more
@@ -35,20 +36,7 @@ with-last {P} l {x} h p w m = go (List·Memᴰ·append-cases l m)
     go (inr n) = rw (alone n) p
 
 module _ (H : List Op) where
-  -- the zone of w is forward
-  abbrev Forward : Op → Type 0
-  Forward w = firstFinish H w < lastStart H w
-
-  -- A run: its forward clusters rise in low end, each but the first has its low end inside the zone of an earlier one, and `top` is the largest
-  -- high end.
-  pub record IsRun (r : Run) : Type 0 where
-    pub rising : Rising (firstFinish H) (forwards r)
-    pub forth : (w : Op) → In w (forwards r) → Forward w
-    pub linked : (x : Op) → In x (r .more) → (y : Op) × In y (forwards r) × (firstFinish H y < firstFinish H x) × (firstFinish H x < lastStart H y)
-    pub below : (w : Op) → In w (forwards r) → lastStart H w ≤ r .top
-    pub reached : (w : Op) × In w (forwards r) × (r .top ≡ lastStart H w)
-
-  new-run : (x : Op) → Forward x → IsRun (newRun H x)
+  new-run : (x : Op) → Forward H x → IsRun H (newRun H x)
   new-run x h =
       record {
         rising = pairs-one x;
@@ -58,8 +46,8 @@ module _ (H : List Op) where
         reached = (x, here refl, omega arith);
       }
 
-  extend-run : (r : Run) (x : Op) → IsRun r → Forward x → Rising (firstFinish H) (forwards (extend H r x)) → low (zoneOf H x) < r .top →
-      IsRun (extend H r x)
+  extend-run : (r : Run) (x : Op) → IsRun H r → Forward H x → Rising (firstFinish H) (forwards (extend H r x)) → low (zoneOf H x) < r .top →
+      IsRun H (extend H r x)
   extend-run r x k h p t =
       record {
         rising = p;
@@ -79,11 +67,11 @@ module _ (H : List Op) where
 
   -- The list l cut into runs.
   pub record Cut (l : List Op) (rs : List Run) : Type 0 where
-    pub each : (r : Run) → In r rs → IsRun r
+    pub each : (r : Run) → In r rs → IsRun H r
     pub apart : Pairs (λ r q. r .top ≤ firstFinish H (q .first)) rs
     pub whole : flatMap forwards rs ≡ l
 
-  grow? : (r : Run) (l : List Op) → IsRun r → ((x : Op) → In x l → Forward x) → Rising (firstFinish H) (forwards r ++ l) →
+  grow? : (r : Run) (l : List Op) → IsRun H r → ((x : Op) → In x l → Forward H x) → Rising (firstFinish H) (forwards r ++ l) →
       Cut (forwards r ++ l) (grow H r l)
   unfolding grow flatMap
   grow? r [] k h p = record { each = λ q m. rw (alone m) k; apart = pairs-one r; whole = refl }
@@ -106,7 +94,7 @@ module _ (H : List Op) where
             whole = ap (λ k. forwards r ++ k) (c .whole);
           }
         where
-          each : (q : Run) → In q (r ∷ rs) → IsRun q
+          each : (q : Run) → In q (r ∷ rs) → IsRun H q
           each q (here e) = rw e k
           each q (there m) = c .each q m
 
@@ -120,7 +108,7 @@ module _ (H : List Op) where
       go true e a c = rw append-assoc at (a (ltb-true _ _ e))
       go false e a c = new (ltb-false _ _ e) c
 
-  runs? : (l : List Op) → ((x : Op) → In x l → Forward x) → Rising (firstFinish H) l → Cut l (runs H l)
+  runs? : (l : List Op) → ((x : Op) → In x l → Forward H x) → Rising (firstFinish H) l → Cut l (runs H l)
   unfolding runs flatMap
   runs? [] h p = record { each = λ r m. elim m [ ]; apart = nil; whole = refl }
   runs? (x ∷ l) h p = grow? (newRun H x) l (new-run x (h x (here refl))) (λ y m. h y (there m)) p
@@ -133,7 +121,7 @@ module _ (H : List Op) where
   abbrev isBackward : Op → Bool
   isBackward w = backward (zoneOf H w)
 
-  pub in-forward : {w : Op} → In w (forwardWrites H) → Write H w × Forward w
+  pub in-forward : {w : Op} → In w (forwardWrites H) → Write H w × Forward H w
   unfolding forwardWrites
   in-forward m = let k = in-keep isForward (writes H) (in-sort (lowFirst H) _ m) in (in-writes H (k .0), ltb-true _ _ (k .1))
 

@@ -15,7 +15,7 @@ use Rattle.methods.specs.Zones.{Decision, none, order, cluster, firstFinish, la
 use Rattle.methods.specs.Fzf.{Run, forwards, Item, chunk, dangling, allRuns, spans, inner, listed, back, writesOf, part, made, items, putBefore, join, fzf}
 use Rattle.witnesses.specs.Histories.{Write, Prepared}
 use Rattle.witnesses.specs.Orders.{Orders}
-use Rattle.witnesses.specs.Decides.{Decides, no-order, an-order}
+use Rattle.witnesses.specs.Decides.{no-order, an-order}
 use Rattle.witnesses.specs.Witness.{Witness}
 use Rattle.witnesses.proofs.Parts.{witness-sub}
 use Rattle.witnesses.proofs.Positions.{orders-witness}
@@ -24,9 +24,11 @@ use Rattle.witnesses.proofs.Join.{join-pairs, joins}
 use Rattle.chunks.specs.Chunk.{Rising, Chunk, Placing}
 use Rattle.chunks.proofs.Around.{ordered}
 use Rattle.clusters.proofs.Clusters.{Differ, in-only, only-in, prepared-only, not-last, home, follows, cluster-orders, before-or-between}
+use Rattle.viability.specs.Runs.{IsRun}
+use Rattle.viability.specs.Fzf.{FzfDecides}
 use Rattle.viability.proofs.Listed.{p-trans, perm-sym, perm-in, perm-back, listed-perm, allowed-listed}
 use Rattle.viability.proofs.Viable.{not-none, same-order, Covers, covers-perm, Falls, viable-complete, first-orders, first-found}
-use Rattle.viability.proofs.Runs.{IsRun, in-backward, backward-apart, all-runs}
+use Rattle.viability.proofs.Runs.{in-backward, backward-apart, all-runs}
 use Rattle.viability.proofs.Items.{in-inner, turns, Item?, is-chunk, is-dangling, item?, item-writes, in-item}
 
 -- an order of rising positions, told from its end, falls
@@ -201,7 +203,7 @@ module _ {H : List Op} (g : Prepared H) where
       orders i m = made-orders i (at i m) (orderOf H i) (h i m)
 
   -- FZF'S THEOREM
-  pub fzf-decides : Decides 2 H (fzf H)
+  pub fzf-decides : FzfDecides H (fzf H)
   unfolding fzf made
   fzf-decides = go (join H (items H)) (join? H (items H))
     where
@@ -209,6 +211,6 @@ module _ {H : List Op} (g : Prepared H) where
       found h i (is-chunk r m) = chunk-found r m (orders-witness (g .proper) h)
       found h i (is-dangling b m) = (cluster H b, refl)
 
-      go : (a : Decision) → Joined? H (items H) a → Decides 2 H a
+      go : (a : Decision) → Joined? H (items H) a → FzfDecides H a
       go none (not-joined i m q) = no-order (λ o h. not-none (sym q ∙ found h i (item? H i m) .1))
       go (order p) (joined h) = an-order (items-order h)

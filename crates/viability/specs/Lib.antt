@@ -1,1 +1,3 @@
--- No definitions of its own: the methods are defined in the crate of the methods.
+-- What the theorems about FZF say; FZF itself is defined in the crate of the methods.
+pub mod Runs
+pub mod Fzf

@@ -1,1 +1,1 @@
-// Pure mathematics: no code. The theorems stand in proofs/.
+// Pure mathematics: no code. What the theorems say stands in specs/, the theorems in proofs/.

@@ -8,14 +8,15 @@ use native.Mathlib.Omega.{arith}
 use native.Mathlib.Nat.{suc-mul, mul-suc}
 use Rattle.history.specs.declared.Op.{Op}
 use Rattle.methods.specs.Place.{writeCount}
-use Rattle.methods.specs.Lbt.{Walk, stale, fresh, trials, decided, lbt}
+use Rattle.methods.specs.Lbt.{Walk, stale, fresh, decided, lbt}
 use Rattle.witnesses.specs.Histories.{Prepared}
 use Rattle.witnesses.specs.Orders.{Orders}
-use Rattle.witnesses.specs.Decides.{Decides, no-order, an-order}
+use Rattle.witnesses.specs.Decides.{no-order, an-order}
 use Rattle.witnesses.proofs.Positions.{orders-witness}
+use Rattle.walks.specs.Lbt.{Says, LbtDecides, FewTrials}
 use Rattle.walks.proofs.Rounds.{Walks, walk?}
 use Rattle.walks.proofs.Complete.{complete}
-use Rattle.walks.proofs.Sound.{Says, sound}
+use Rattle.walks.proofs.Sound.{sound}
 use Rattle.walks.proofs.Trials.{trials-bound}
 
 module _ {H : List Op} (g : Prepared H) where
@@ -23,15 +24,15 @@ module _ {H : List Op} (g : Prepared H) where
   walks = walk? (writeCount H) H g (omega arith)
 
   -- LBT'S THEOREM
-  pub lbt-decides : Decides 2 H (decided (lbt H))
+  pub lbt-decides : LbtDecides H (lbt H)
   unfolding decided
   lbt-decides = go (lbt H) (sound g walks) (λ o h. complete _ g (orders-witness (g .proper) h) walks)
     where
-      go : (w : Walk) → Says H w → ((o : List Op) → Orders 2 H o → (t : ℕ) × (p : List Op) × (w ≡ fresh t p)) → Decides 2 H (decided w)
+      go : (w : Walk) → Says H w → ((o : List Op) → Orders 2 H o → (t : ℕ) × (p : List Op) × (w ≡ fresh t p)) → LbtDecides H w
       go (stale t) s f = no-order (λ o h. let c = f o h in let z : _≡_ {A = ℕ} 0 1 = cc in omega arith)
       go (fresh t p) s f = an-order s
 
-  pub few-trials : trials (lbt H) ≤ 2 * writeCount H - 1
+  pub few-trials : FewTrials H (lbt H)
   few-trials = trials-bound g walks
 
 four-times : (n : ℕ) → 4 * n ≤ n * suc n + 2

@@ -12,6 +12,7 @@ use Rattle.witnesses.specs.Histories.{Write, Prepared}
 use Rattle.witnesses.specs.Orders.{run-nil, Orders}
 use Rattle.witnesses.proofs.Parts.{stays, prepared-rest}
 use Rattle.witnesses.proofs.Steps.{step-sound}
+use Rattle.walks.specs.Lbt.{Says}
 use Rattle.walks.proofs.Epochs.{Wins, wins-now, wins-on}
 use Rattle.walks.proofs.Rounds.{winner, won-part, Walks, ended, stuck, onward}
 
@@ -33,10 +34,6 @@ wins-orders {w} {H} {p = p} g k (wins-on {v = v} {o = o} x t) h =
     second (inr q) = there (here q)
 
 -- SOUND: what a walk says that is fresh.
-abbrev pub Says : List Op → Walk → Type 0
-Says H (stale t) = Unit {0}
-Says H (fresh t o) = Orders 2 H o
-
 pub sound : {H : List Op} {w : Walk} → Prepared H → Walks H w → Says H w
 unfolding follow
 sound g ended = record { from = λ x m. m; into = λ x m. m; pairs = nil; passed = []; runs = run-nil }

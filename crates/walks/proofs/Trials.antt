@@ -2,7 +2,7 @@
 -- later, and nothing that is left starts after the winner's finish, so from then on nothing starts after the failed write's. So each write
 -- fails at most once.
 -- Assumes nothing.
-use Prim.Native.Nat.{ℕ, suc, _+_, _*_, _-_, _≤_, _<_}
+use Prim.Native.Nat.{ℕ, suc, _+_, _-_, _≤_, _<_}
 use mathlib.Core.Path.{_≡_, refl, sym, ap}
 use mathlib.Core.Logic.{_⊎_, inl, inr, _≢_}
 use mathlib.Core.List.{List, _∷_, _++_, List·Memᴰ as In, List·Memᴰ·head as here, List·Memᴰ·tail as there, List·Memᴰ·append-cases, Memᴰ·append-left}
@@ -20,6 +20,7 @@ use Rattle.methods.specs.Place.{startsAfter, later, writes, writeCount}
 use Rattle.methods.specs.Lbt.{Walk, stale, fresh, trials, follow}
 use Rattle.witnesses.specs.Histories.{Write, Apart, Prepared}
 use Rattle.witnesses.proofs.Parts.{named, in-later, in-rest, in-writes, writes-in, stays}
+use Rattle.walks.specs.Lbt.{FewTrials}
 use Rattle.walks.proofs.Epochs.{late-write, two-values, no-writer, Fails, fails-now, fails-on, Wins, wins-now, wins-on, wins-part, has-write}
 use Rattle.walks.proofs.Rounds.{candidates-fall, candidates-apart, candidates-length, in-candidate, RoundWon, winner, won-part, Walks, ended, stuck, onward}
 
@@ -132,7 +133,7 @@ each-once {H} g (onward {r = r} {o = o} {t = t} {w = w} k s) =
     omega (arith, follow-trials t o w, k .count, fewer-followed g k, p .less, each-once (p .good g) s)
 
 -- AT MOST 2W - 1 TRIALS: the winner of the first round never fails, and where no round is won a write is left.
-pub trials-bound : {H : List Op} {w : Walk} → Prepared H → Walks H w → trials w ≤ 2 * writeCount H - 1
+pub trials-bound : {H : List Op} {w : Walk} → Prepared H → Walks H w → FewTrials H w
 unfolding trials
 trials-bound g ended = omega arith
 trials-bound g (stuck {x = x} {l = l} i u) = omega (arith, i, candidates-length (x ∷ l), has-write x l g)

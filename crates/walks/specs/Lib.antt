@@ -1,1 +1,2 @@
--- No definitions of its own: LBT is defined in the crate of the methods.
+-- What the theorems about LBT say; LBT itself is defined in the crate of the methods.
+pub mod Lbt

@@ -1,0 +1,2 @@
+-- What keeps a register from having an order.
+pub mod Anomalies
