@@ -22,6 +22,6 @@ fn main() {
     }
     let n = got.count;
     let mut out = [0u8; 65536];
-    let printed = sheet::bench(&input[..n], register, allowance, &mut out);
+    let printed = file_sheets::bench(&input[..n], register, allowance, &mut out);
     console::print(&out, printed.rows);
 }

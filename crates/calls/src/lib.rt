@@ -17,7 +17,7 @@ ghost use Rattle.printing.specs.Texts.{textAfter, refusedLine};
 ghost use Rattle.printing.specs.Files.{fileText};
 ghost use Rattle.report.specs.Report.{reportOf, reportAnswer, reportAfter};
 ghost use Rattle.sheet.specs.Sheet.{sheetOf, examOf};
-ghost use Rattle.sheet.specs.Files.{benchOf, examFile};
+ghost use Rattle.file_sheets.specs.Files.{benchOf, examFile};
 ghost use Rattle.parsing.specs.Numbers.{numberIn, linesIn, counted, stored};
 ghost use Rattle.calls.specs.Calls.{Says, Prints, answerOf, numberAnswer, countAnswer};
 
@@ -151,7 +151,7 @@ pub extern "C" fn calls_bench(
     ensures { λ _. ⌜ now (out .exit) ≡ textAfter (benchOf (now (bytes .entry)) register allowance) (now (out .entry)) ⌝ }
     ensures { λ _. ⌜ Prints (benchOf (now (bytes .entry)) register allowance) (now (out .entry)) (now (to .entry)) (now (to .exit)) ⌝ }
 {
-    sheet::bench(bytes, register, allowance, out).write(to);
+    file_sheets::bench(bytes, register, allowance, out).write(to);
 }
 
 #[no_mangle]
@@ -166,7 +166,7 @@ pub extern "C" fn calls_exam(
     ensures { λ _. ⌜ now (out .exit) ≡ textAfter (examFile (now (bytes .entry)) register k (now (list .entry))) (now (out .entry)) ⌝ }
     ensures { λ _. ⌜ Prints (examFile (now (bytes .entry)) register k (now (list .entry))) (now (out .entry)) (now (to .entry)) (now (to .exit)) ⌝ }
 {
-    sheet::exam(bytes, register, k, list, out).write(to);
+    file_sheets::exam(bytes, register, k, list, out).write(to);
 }
 
 #[no_mangle]

@@ -33,6 +33,6 @@ fn main() {
     }
     let n = got.count;
     let mut out = [0u8; 65536];
-    let printed = sheet::exam(&input[..n], register, k, &list[..rows], &mut out);
+    let printed = file_sheets::exam(&input[..n], register, k, &list[..rows], &mut out);
     console::print(&out, printed.rows);
 }

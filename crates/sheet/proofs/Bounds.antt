@@ -21,11 +21,9 @@ use Rattle.meaning.proofs.Demand.{demand-3}
 use Rattle.meaning.proofs.Outcomes.{marked?}
 use Rattle.preparation.proofs.Rows.{history-rows}
 use Rattle.text.specs.Decimal.{line}
-use Rattle.printing.proofs.Filing.{text-bound}
 use Rattle.lines.specs.Lines.{answersOf, checkLine}
 use Rattle.lines.proofs.Bounds.{check-bound, order-of-bound, answers-bound}
 use Rattle.sheet.specs.Sheet.{heading, outcomeTo, orderLine, ordersOf, pageOf, sheetOf, examOf}
-use Rattle.sheet.specs.Files.{benchOf, examFile}
 use Rattle.sheet.proofs.Parts.{order-is}
 
 -- a line of an order, and those of three
@@ -89,12 +87,3 @@ pub exam-bound : (t : List ℕ) (register k : ℕ) (list : List ℕ) → length 
 unfolding examOf
 exam-bound t register k list =
     omega (arith, length-append (sheetOf t register mostTrials) (checkLine (check t register k list)), sheet-bound t register mostTrials, check-bound (check t register k list))
-
--- The same of a file: a text, or the line of its refusal.
-pub bench-bound : (bytes : List ℕ) (register allowance : ℕ) → length (benchOf bytes register allowance) ≤ 64944
-unfolding benchOf
-bench-bound bytes register allowance = text-bound bytes (λ t. sheetOf t register allowance) 64944 (omega arith) (λ t. sheet-bound t register allowance)
-
-pub exam-file-bound : (bytes : List ℕ) (register k : ℕ) (list : List ℕ) → length (examFile bytes register k list) ≤ 64993
-unfolding examFile
-exam-file-bound bytes register k list = text-bound bytes (λ t. examOf t register k list) 64993 (omega arith) (λ t. exam-bound t register k list)

@@ -1,4 +1,3 @@
 -- What the programs bench and exam print.
 pub mod Sheet
 pub mod Pages
-pub mod Files

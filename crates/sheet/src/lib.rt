@@ -3,12 +3,10 @@ use history::Answer;
 use history::Row;
 ghost use mathlib.Core.Path.{_≡_};
 ghost use lib.ListN.{length, replicate};
-ghost use Rattle.records.specs.Records.{tableOf};
 ghost use Rattle.marks.specs.Marks.{mostTrials};
 ghost use Rattle.printing.specs.Texts.{Printed};
 ghost use Rattle.lines.specs.Lines.{Put, places};
 ghost use Rattle.sheet.specs.Sheet.{outcomeTo, sheetOf, Shown, examOf, Told};
-ghost use Rattle.sheet.specs.Files.{benchOf, examFile};
 ghost use Rattle.sheet.specs.Pages.{room, Page};
 
 // A question and the list of 1,024 places behind it.
@@ -65,33 +63,4 @@ pub fn checked(table: &[u64], register: u64, k: u64, list: &[u64], out: &mut [u8
     let answer = orders::check(table, register, k, list);
     let length = lines::put_check(answer, &mut whole, next);
     printing::hand_out(&whole[..length], out)
-}
-
-// The sheet of a register of a history file, or the line of a refused file.
-pub fn bench(bytes: &[u8], register: u64, allowance: u64, out: &mut [u8]) -> Answer
-    ensures text { λ r. ⌜ Printed (benchOf (now (bytes .entry)) register allowance) (now (out .entry)) r (now (out .exit)) ⌝ }
-    ensures shown { λ _. ⌜ Shown (tableOf (now (bytes .entry))) register allowance ⌝ }
-{
-    let mut table = [0u64; Row::LARGEST_TABLE];
-    let read = files::read(bytes, &mut table);
-    if read.code != Answer::FRESH {
-        return printing::refusal(read, out);
-    }
-    let end = read.rows as usize * Row::COLUMNS;
-    sheet(&table[..end], register, allowance, out)
-}
-
-// The same with the check of an order.
-pub fn exam(bytes: &[u8], register: u64, k: u64, list: &[u64], out: &mut [u8]) -> Answer
-    ensures text { λ r. ⌜ Printed (examFile (now (bytes .entry)) register k (now (list .entry))) (now (out .entry)) r (now (out .exit)) ⌝ }
-    ensures shown { λ _. ⌜ Shown (tableOf (now (bytes .entry))) register mostTrials ⌝ }
-    ensures told { λ _. ⌜ Told (tableOf (now (bytes .entry))) register k (now (list .entry)) ⌝ }
-{
-    let mut table = [0u64; Row::LARGEST_TABLE];
-    let read = files::read(bytes, &mut table);
-    if read.code != Answer::FRESH {
-        return printing::refusal(read, out);
-    }
-    let end = read.rows as usize * Row::COLUMNS;
-    checked(&table[..end], register, k, list, out)
 }

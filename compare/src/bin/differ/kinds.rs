@@ -103,11 +103,11 @@ pub const KINDS: [Kind; 18] = [
         |g, lent| checked(&g.table, g.register, g.k, &g.list, &mut lent.bytes)
     ),
     kind!(
-        "sheet::bench" gives OF_ROOM, from given::of_file_register, needs |g| printed(text::bench_of(&g.bytes, g.register, g.allowance));
+        "file_sheets::bench" gives OF_ROOM, from given::of_file_register, needs |g| printed(text::bench_of(&g.bytes, g.register, g.allowance));
         |g, lent| bench(&g.bytes, g.register, g.allowance, &mut lent.bytes)
     ),
     kind!(
-        "sheet::exam" gives OF_ROOM, from given::of_file_order, needs |g| printed(text::exam_of(&g.bytes, g.register, g.k, &g.list));
+        "file_sheets::exam" gives OF_ROOM, from given::of_file_order, needs |g| printed(text::exam_of(&g.bytes, g.register, g.k, &g.list));
         |g, lent| exam(&g.bytes, g.register, g.k, &g.list, &mut lent.bytes)
     ),
     kind!(

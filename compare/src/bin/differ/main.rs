@@ -51,7 +51,7 @@ fn main() {
         let entry = entry::compare(calls);
         (entry, running.into_iter().map(|one| one.join().expect("a kind of calls ends")).collect::<Vec<_>>())
     });
-    println!("{:<18} {:>9} {:>9} {:>12}", "call", "calls", "refused", "differences");
+    println!("{:<20} {:>9} {:>9} {:>12}", "call", "calls", "refused", "differences");
     let mut sound = entry.sound();
     for (kind, tally) in KINDS.iter().zip(tallies) {
         sound &= tally.sound(kind.name, kind.codes);

@@ -30,7 +30,7 @@ impl Tally {
     /// Prints the line of a call; whether nothing differs and each of the codes has come.
     pub fn sound(&self, name: &str, codes: &[u64]) -> bool {
         let decided: u64 = [FRESH, SPENT, STALE].iter().map(|&code| self.came(code)).sum();
-        println!("{name:<18} {:>9} {:>9} {:>12}", self.calls, self.calls - decided, self.differences);
+        println!("{name:<20} {:>9} {:>9} {:>12}", self.calls, self.calls - decided, self.differences);
         let missing: Vec<u64> = codes.iter().copied().filter(|&code| self.came(code) == 0).collect();
         if !missing.is_empty() {
             println!("{name}: codes that never came: {missing:?}");

@@ -1,13 +1,13 @@
 -- The file is refused, or its table's sheet and check are printed.
 use Rattle.sheet.proofs.Showing.{shown, told}
 use native.Mathlib.Omega.{arith}
 use borrow.Author.Needs.{needs}
 use Rattle.files.proofs.Loading.{loaded-as, loaded-small, loaded-front, loaded-in, loaded-long}
 use Rattle.printing.proofs.Filing.{file-refused, file-printed}
 use Rattle.sheet.specs.Sheet.{examOf}
-use Rattle.sheet.specs.Files.{examFile}
-use Rattle.sheet.proofs.exam.Statement.{statement}
-use Rattle.sheet.proofs.exam.Tie as tie
+use Rattle.file_sheets.specs.Files.{examFile}
+use Rattle.file_sheets.proofs.exam.Statement.{statement}
+use Rattle.file_sheets.proofs.exam.Tie as tie
 
 slice-aggregate-read : tie.Need-slice-aggregate-read
 slice-aggregate-read c = search needs

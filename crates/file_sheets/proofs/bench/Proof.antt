@@ -1,13 +1,13 @@
 -- The file is refused, or its table's sheet is printed.
 use Rattle.sheet.proofs.Showing.{shown}
 use native.Mathlib.Omega.{arith}
 use borrow.Author.Needs.{needs}
 use Rattle.files.proofs.Loading.{loaded-as, loaded-small, loaded-front, loaded-in, loaded-long}
 use Rattle.printing.proofs.Filing.{file-refused, file-printed}
 use Rattle.sheet.specs.Sheet.{sheetOf}
-use Rattle.sheet.specs.Files.{benchOf}
-use Rattle.sheet.proofs.bench.Statement.{statement}
-use Rattle.sheet.proofs.bench.Tie as tie
+use Rattle.file_sheets.specs.Files.{benchOf}
+use Rattle.file_sheets.proofs.bench.Statement.{statement}
+use Rattle.file_sheets.proofs.bench.Tie as tie
 
 slice-aggregate-read : tie.Need-slice-aggregate-read
 slice-aggregate-read c = search needs

@@ -1,0 +1,2 @@
+-- How long the texts are.
+pub mod Bounds

@@ -1,0 +1,2 @@
+-- What the programs bench and exam print of a history file.
+pub mod Files
