@@ -111,7 +111,7 @@ pub fn number(place: usize) -> Number {
     parsing::number_in(&word[..n])
 }
 
-// Prints the front of a text.
+// Prints the front of a text, or nothing where the text is not so long. Nothing is promised: no contract can say what the system takes.
 pub fn print(text: &[u8], length: u64) {
     if length <= text.len() as u64 {
         let n = length as usize;
@@ -121,7 +121,7 @@ pub fn print(text: &[u8], length: u64) {
     }
 }
 
-// Writes a line to standard error.
+// Writes a line to standard error. Nothing is promised, as of `print`.
 pub fn complain(line: &[u8]) {
     io::write_all(STDERR_FILENO, line);
 }
