@@ -3,6 +3,7 @@
 use crate::answer::{put, Answer};
 use crate::codes::{FRESH, SHORT_LIST, SPENT, STALE};
 use crate::file::{push_record, table_of, MOST_ROWS};
+use crate::log;
 use crate::screening::screened;
 use crate::table::{self, row, whole, COLUMNS};
 use crate::text;
@@ -64,6 +65,11 @@ pub fn read(bytes: &[u8], table: &mut [u64]) -> Answer {
     either(table_of(bytes).and_then(|rows| put(&rows, table, rows.len() / COLUMNS)))
 }
 
+/// The rows of a log with named columns.
+pub fn load(log: &[u8], table: &mut [u64]) -> Answer {
+    either(log::table_of(log).and_then(|rows| put(&rows, table, rows.len() / COLUMNS)))
+}
+
 /// The rows of one register of a file.
 pub fn select(bytes: &[u8], register: u64, table: &mut [u64]) -> Answer {
     either(table_of(bytes).and_then(|all| {
@@ -105,6 +111,10 @@ pub fn report(table: &[u64], out: &mut [u8]) -> Answer {
 
 pub fn road(bytes: &[u8], out: &mut [u8]) -> Answer {
     print(&text::road_of(bytes), out)
+}
+
+pub fn log(bytes: &[u8], out: &mut [u8]) -> Answer {
+    print(&text::log_of(bytes), out)
 }
 
 pub fn sheet(table: &[u64], register: u64, allowance: u64, out: &mut [u8]) -> Answer {

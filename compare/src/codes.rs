@@ -1,4 +1,4 @@
-//! The codes of the scope document.
+//! The codes of the scope document and of the requests.
 
 pub const FRESH: u64 = 0;
 pub const RAGGED: u64 = 1;
@@ -18,3 +18,5 @@ pub const OUT_OF_TIME: u64 = 14;
 pub const TOO_FAR_BEHIND: u64 = 15;
 pub const CUT_RECORD: u64 = 16;
 pub const STRANGE_RECORD: u64 = 17;
+pub const HEADER_FAULT: u64 = 18;
+pub const UNREADABLE_CELL: u64 = 19;

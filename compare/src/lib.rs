@@ -1,5 +1,5 @@
 //! The marking of register histories in plain Rust, to compare the proved library with: `differ` compares the calls, on random and on damaged
-//! input, `speed` the times. Written from the scope document and the paper, and where these leave something free (what the programs print beside
+//! input, `speed` the times. Written from the scope document, the requests and the paper, and where these leave something free (what the programs print beside
 //! the report, the numbers in text, one register of a file) from the pages of the repository.
 
 pub mod answer;
@@ -11,6 +11,8 @@ mod fzf;
 pub mod histories;
 mod lbt;
 pub mod library;
+pub mod log;
+pub mod logs;
 pub mod order;
 pub mod random;
 pub mod register;

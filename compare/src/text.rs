@@ -4,6 +4,7 @@ use crate::answer::Answer;
 use crate::calls::{answer, check, mark};
 use crate::codes::FRESH;
 use crate::file::{table_of, MOST_ROWS};
+use crate::log;
 use crate::table::{registers, COLUMNS};
 use crate::ALLOWANCE;
 
@@ -35,13 +36,17 @@ pub fn refused_of(refusal: Answer) -> String {
     format!("refused,{}", line(&[refusal.code, refusal.row]))
 }
 
-/// A text of a file's table, or the line of its refusal.
-fn text_of(bytes: &[u8], text: impl FnOnce(&[u64]) -> String) -> String {
-    table_of(bytes).map_or_else(refused_of, |table| text(&table))
+/// A text of a table that was read, or the line of the refusal.
+fn text_of(table: Result<Vec<u64>, Answer>, text: impl FnOnce(&[u64]) -> String) -> String {
+    table.map_or_else(refused_of, |table| text(&table))
 }
 
 pub fn road_of(bytes: &[u8]) -> String {
-    text_of(bytes, report_of)
+    text_of(table_of(bytes), report_of)
+}
+
+pub fn log_of(bytes: &[u8]) -> String {
+    text_of(log::table_of(bytes), report_of)
 }
 
 /// The answers to the three questions, and then the order of each that is fresh.
@@ -66,11 +71,11 @@ pub fn checked_of(table: &[u64], register: u64, k: u64, list: &[u64]) -> String 
 }
 
 pub fn bench_of(bytes: &[u8], register: u64, allowance: u64) -> String {
-    text_of(bytes, |table| sheet_of(table, register, allowance))
+    text_of(table_of(bytes), |table| sheet_of(table, register, allowance))
 }
 
 pub fn exam_of(bytes: &[u8], register: u64, k: u64, list: &[u64]) -> String {
-    text_of(bytes, |table| checked_of(table, register, k, list))
+    text_of(table_of(bytes), |table| checked_of(table, register, k, list))
 }
 
 /// The number that a text of one to twenty digits is, where 64 bits hold it.

@@ -11,11 +11,13 @@ ghost use Rattle.atomicity.specs.Check.{check};
 ghost use Rattle.methods.specs.Mark.{mark};
 ghost use Rattle.marks.specs.Marks.{answerTo};
 ghost use Rattle.files.specs.Files.{readAnswer, readTable, writeAnswer, writeBytes};
+ghost use Rattle.log_tables.specs.Logs.{loadAnswer, loadTable};
 ghost use Rattle.selection.specs.Selected.{selectAnswer, selectTable};
 ghost use Rattle.summary.specs.Summary.{summaryAnswer, summaryList};
 ghost use Rattle.printing.specs.Texts.{textAfter, refusedLine};
 ghost use Rattle.printing.specs.Files.{fileText};
 ghost use Rattle.report.specs.Report.{reportOf, reportAnswer, reportAfter};
+ghost use Rattle.log_report.specs.Logs.{logText};
 ghost use Rattle.sheet.specs.Sheet.{sheetOf, examOf};
 ghost use Rattle.file_sheets.specs.Files.{benchOf, examFile};
 ghost use Rattle.parsing.specs.Numbers.{numberIn, linesIn, counted, stored};
@@ -72,6 +74,14 @@ pub extern "C" fn calls_read(bytes: &[u8], table: &mut [u64], to: &mut [u64])
 }
 
 #[no_mangle]
+pub extern "C" fn calls_load(bytes: &[u8], table: &mut [u64], to: &mut [u64])
+    ensures { λ _. ⌜ now (table .exit) ≡ loadTable (now (bytes .entry)) (now (table .entry)) ⌝ }
+    ensures { λ _. ⌜ Says (loadAnswer (now (bytes .entry)) (now (table .entry))) (now (to .entry)) (now (to .exit)) ⌝ }
+{
+    logs::load(bytes, table).write(to);
+}
+
+#[no_mangle]
 pub extern "C" fn calls_select(bytes: &[u8], register: u64, table: &mut [u64], to: &mut [u64])
     ensures { λ _. ⌜ now (table .exit) ≡ selectTable (now (bytes .entry)) register (now (table .entry)) ⌝ }
     ensures { λ _. ⌜ Says (selectAnswer (now (bytes .entry)) register (now (table .entry))) (now (to .entry)) (now (to .exit)) ⌝ }
@@ -109,6 +119,14 @@ pub extern "C" fn calls_road(bytes: &[u8], out: &mut [u8], to: &mut [u64])
     ensures { λ _. ⌜ Prints (fileText (now (bytes .entry)) reportOf) (now (out .entry)) (now (to .entry)) (now (to .exit)) ⌝ }
 {
     report::road(bytes, out).write(to);
+}
+
+#[no_mangle]
+pub extern "C" fn calls_log(bytes: &[u8], out: &mut [u8], to: &mut [u64])
+    ensures { λ _. ⌜ now (out .exit) ≡ textAfter (logText (now (bytes .entry))) (now (out .entry)) ⌝ }
+    ensures { λ _. ⌜ Prints (logText (now (bytes .entry))) (now (out .entry)) (now (to .entry)) (now (to .exit)) ⌝ }
+{
+    log_report::log(bytes, out).write(to);
 }
 
 #[no_mangle]

@@ -4,8 +4,8 @@ use Prim.Native.Nat.{ℕ, _*_, _%_, _≤_}
 use mathlib.Core.Path.{_≡_, sym, ap, _∙_}
 use mathlib.Core.List.{List, _++_}
 use native.Mathlib.Omega.{arith}
-use lib.ListN.{length, take, drop, length-append}
-use lib.Seq.{take-at}
+use lib.ListN.{length, take, drop}
+use Rattle.lists.proofs.Stores.{front-is, front-long, front-in}
 use Rattle.history.specs.declared.Answer.{Answer}
 use Rattle.history.specs.Table.{largestCount, rowCount}
 use Rattle.records.specs.Records.{begun, tableOf}
@@ -45,10 +45,10 @@ module _ (bs table : List ℕ) (a : Answer) (loaded : List ℕ) (o : (a ≡ read
   is-loaded = o .1 ∙ after-fresh (readAnswer bs table) (tableOf bs) table zero
 
   pub loaded-front : take (a .rows * 5) loaded ≡ tableOf bs
-  loaded-front = ap (take (a .rows * 5)) is-loaded ∙ take-at (tableOf bs) (drop (length (tableOf bs)) table) (a .rows * 5) long
+  loaded-front = front-is (tableOf bs) _ loaded (a .rows * 5) long is-loaded
 
   pub loaded-long : a .rows * 5 ≡ length (take (a .rows * 5) loaded)
-  loaded-long = sym long ∙ ap length (sym loaded-front)
+  loaded-long = front-long (tableOf bs) _ loaded (a .rows * 5) long is-loaded
 
   pub loaded-in : a .rows * 5 ≤ length loaded
-  loaded-in = omega (arith, ap length is-loaded, length-append (tableOf bs) (drop (length (tableOf bs)) table), long)
+  loaded-in = front-in (tableOf bs) _ loaded (a .rows * 5) long is-loaded

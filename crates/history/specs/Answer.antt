@@ -15,7 +15,7 @@ use Rattle.history.specs.declared.Answer.{Answer}
 pub data Code : Type 0 where
   fresh : Code
   ragged : Code
-  overfull : Code  -- in reading a file: the record's offset
+  overfull : Code  -- in reading a file or a log: the offset of the record or line
   no-such-question : Code
   bad-kind : Code  -- the lowest such row
   bad-span : Code  -- the lowest such row
@@ -31,6 +31,8 @@ pub data Code : Type 0 where
   too-far-behind : Code  -- a list position
   cut-record : Code  -- the record's offset
   strange-record : Code  -- the record's offset
+  header-fault : Code  -- the offset 0 (02, W-201)
+  unreadable-cell : Code  -- the offset of the cell, or of its line (02, W-201)
 
 -- their numbers (01's table)
 abbrev pub number : Code → ℕ
@@ -52,6 +54,8 @@ number out-of-time = 14
 number too-far-behind = 15
 number cut-record = 16
 number strange-record = 17
+number header-fault = 18
+number unreadable-cell = 19
 
 -- An answer has four fields: with a code and a row field alone; and of a register that passes, with the count of its rows (01, "The answer
 -- and its numbers": rows is 0 but with codes 0 and 12).

@@ -161,6 +161,10 @@ impl Answer {
 
     pub const STRANGE_RECORD: u64 = 17;
 
+    pub const HEADER_FAULT: u64 = 18;
+
+    pub const UNREADABLE_CELL: u64 = 19;
+
     // The answer with a code and a row field alone.
     pub fn refused(code: u64, row: u64) -> Answer
         ensures { λ r. ⌜ r ≡ refusedBy code row ⌝ }

@@ -4,8 +4,8 @@ use Prim.Native.Nat.{ℕ, suc, _+_, _≤_}
 use mathlib.Core.Path.{_≡_, sym, ap, _∙_}
 use mathlib.Core.List.{List, [], _∷_, _++_}
 use native.Mathlib.Omega.{arith}
-use lib.ListN.{length, set, drop}
-use lib.Seq.{sets, sets-eq}
+use lib.ListN.{length, set, take, drop, length-append}
+use lib.Seq.{sets, sets-eq, take-at}
 
 module _ {A : Type 0} where
   -- two lists, one behind the other
@@ -22,3 +22,14 @@ module _ {A : Type 0} where
   -- at the front, the rest stays
   pub sets-front : (vs l : List A) → length vs ≤ length l → sets l 0 vs ≡ vs ++ drop (length vs) l
   sets-front vs l h = let e : 0 + length vs ≡ length vs = omega arith in sets-eq vs l 0 (omega arith) ∙ ap (λ (k : ℕ). vs ++ drop k l) e
+
+-- a result of n elements at the front of a list
+module _ {A : Type 0} (result rest l : List A) (n : ℕ) (long : length result ≡ n) (e : l ≡ result ++ rest) where
+  pub front-is : take n l ≡ result
+  front-is = ap (take n) e ∙ take-at result rest n long
+
+  pub front-long : n ≡ length (take n l)
+  front-long = sym long ∙ ap length (sym front-is)
+
+  pub front-in : n ≤ length l
+  front-in = omega (arith, ap length e, length-append result rest, long)

@@ -11,7 +11,7 @@ use lib.ListN.{length, getD, drop, drop-of-length-le}
 use lib.Seq.{drop-cons}
 use borrow.Author.Tests.{lt-ltb, le-ltb, ltb-true, ltb-false}
 use Rattle.lists.specs.Lists.{all}
-use Rattle.parsing.specs.Numbers.{isDigit, worth, held, says, numberIn}
+use Rattle.parsing.specs.Numbers.{isDigit, worth, held, says, numberOf, numberIn}
 use Rattle.parsing.specs.declared.Number.{Number}
 use Rattle.parsing.specs.declared.Number.the-variants.{Is, Nothing}
 
@@ -70,25 +70,32 @@ module _ (v c : ℕ) where
       go false b e h = refl
 
 module _ (text : List ℕ) where
-  pub number-empty : length text < 1 → numberIn text ≡ Nothing
-  unfolding numberIn
+  pub number-empty : length text < 1 → numberOf text ≡ Nothing
+  unfolding numberOf
   number-empty h = rw (lt-ltb (length text) 1 h)
+
+  pub number-some : 1 ≤ length text → numberOf text ≡ says 0 text
+  unfolding numberOf
+  number-some h = rw (le-ltb (length text) 1 h)
 
   pub number-long : 20 < length text → numberIn text ≡ Nothing
   unfolding numberIn
-  number-long h = rw (le-ltb (length text) 1 (omega arith), lt-ltb 20 (length text) h)
+  number-long h = rw (lt-ltb 20 (length text) h)
+
+  pub number-short : length text ≤ 20 → numberIn text ≡ numberOf text
+  unfolding numberIn
+  number-short l = rw (le-ltb 20 (length text) l)
 
   pub number-sized : 1 ≤ length text → length text ≤ 20 → numberIn text ≡ says 0 text
-  unfolding numberIn
-  number-sized h l = rw (le-ltb (length text) 1 h, le-ltb 20 (length text) l)
+  number-sized h l = number-short l ∙ number-some h
 
   -- the bytes from i on decide, behind a value
   pub record Reading (value i : ℕ) : Type 0 where
     pub small : value < 2 ^ 64
-    pub whole : numberIn text ≡ says value (drop i text)
+    pub whole : numberOf text ≡ says value (drop i text)
 
-  pub read-none : 1 ≤ length text → length text ≤ 20 → Reading 0 0
-  read-none h l = record { small = omega arith; whole = number-sized h l }
+  pub read-none : 1 ≤ length text → Reading 0 0
+  read-none h = record { small = omega arith; whole = number-some h }
 
   module _ {value i : ℕ} (g : Reading value i) where
     pub read-more : (w : ℕ) → i < length text → says value (getD text i 0 ∷ []) ≡ Is w → Reading w (i + 1)
@@ -98,9 +105,9 @@ module _ (text : List ℕ) where
           whole = g .whole ∙ rw (drop-cons text i 0 h, add-one i) (says-next value (getD text i 0) (drop (suc i) text) w e);
         }
 
-    pub read-other : i < length text → says value (getD text i 0 ∷ []) ≡ Nothing → numberIn text ≡ Nothing
+    pub read-other : i < length text → says value (getD text i 0 ∷ []) ≡ Nothing → numberOf text ≡ Nothing
     read-other h e = g .whole ∙ rw (drop-cons text i 0 h) (says-not value (getD text i 0) (drop (suc i) text) e)
 
-    pub read-end : length text ≤ i → numberIn text ≡ Is value
+    pub read-end : length text ≤ i → numberOf text ≡ Is value
     unfolding says all worth
     read-end h = g .whole ∙ rw (drop-of-length-le text h) (held-small value (g .small))

@@ -28,9 +28,13 @@ held v = cond (ltb v (2 ^ 64)) (Is v) Nothing
 unfoldable pub says : ℕ → List ℕ → Number
 says v t = cond (all isDigit t) (held (worth v t)) Nothing
 
--- a text of one to twenty digits, worth at most 2 ^ 64 - 1
+-- a text of one or more digits, worth at most 2 ^ 64 - 1
+unfoldable pub numberOf : List ℕ → Number
+numberOf t = cond (ltb (length t) 1) Nothing (says 0 t)
+
+-- such a text of at most twenty digits
 unfoldable pub numberIn : List ℕ → Number
-numberIn t = cond (ltb (length t) 1) Nothing (cond (ltb 20 (length t)) Nothing (says 0 t))
+numberIn t = cond (ltb 20 (length t)) Nothing (numberOf t)
 
 -- the bytes before the first line feed
 unfoldable pub front : List ℕ → List ℕ

@@ -4,7 +4,7 @@ ghost use mathlib.Core.List.{[], _∷_};
 ghost use Prim.Native.Nat.{_+_};
 ghost use lib.ListN.{length, drop};
 ghost use lib.Seq.{sets};
-ghost use Rattle.parsing.specs.Numbers.{says, numberIn, front, sound, leading, linesIn, counted, stored};
+ghost use Rattle.parsing.specs.Numbers.{says, numberOf, numberIn, front, sound, leading, linesIn, counted, stored};
 
 // What a text says as a number of 64 bits.
 pub enum Number {
@@ -19,7 +19,7 @@ pub enum Count {
 }
 
 // The number that one more byte makes of a value.
-fn appended(value: u64, byte: u8) -> Number
+pub fn appended(value: u64, byte: u8) -> Number
     ensures { λ r. ⌜ r ≡ says value (byte ∷ []) ⌝ }
 {
     if byte < b'0' {
@@ -39,14 +39,11 @@ fn appended(value: u64, byte: u8) -> Number
     Number::Is(tens + digit)
 }
 
-// The number that a text is: one to twenty decimal digits, worth at most 2 ^ 64 - 1.
-pub fn number_in(text: &[u8]) -> Number
-    ensures { λ r. ⌜ r ≡ numberIn (now (text .entry)) ⌝ }
+// The number that a text is: one or more decimal digits, worth at most 2 ^ 64 - 1.
+fn number_of(text: &[u8]) -> Number
+    ensures { λ r. ⌜ r ≡ numberOf (now (text .entry)) ⌝ }
 {
     if text.len() < 1 {
-        return Number::Nothing;
-    }
-    if 20 < text.len() {
         return Number::Nothing;
     }
     let mut value = 0;
@@ -60,6 +57,16 @@ pub fn number_in(text: &[u8]) -> Number
         value = x;
     }
     Number::Is(value)
+}
+
+// The number that a text is, where it has at most twenty digits.
+pub fn number_in(text: &[u8]) -> Number
+    ensures { λ r. ⌜ r ≡ numberIn (now (text .entry)) ⌝ }
+{
+    if 20 < text.len() {
+        return Number::Nothing;
+    }
+    number_of(text)
 }
 
 // Where the line that starts at `at` ends: at its line feed, or at the text's end.

@@ -1,4 +1,4 @@
--- What is printed of a file, from its reading.
+-- What is printed of a file or a log, from its loading.
 -- Assumes nothing.
 use Prim.Native.Nat.{ℕ, _≤_}
 use mathlib.Core.Path.{_≡_, refl, sym, ap, _∙_}
@@ -14,23 +14,23 @@ use Rattle.text.specs.Decimal.{line}
 use Rattle.text.proofs.Joins.{line-length}
 use Rattle.records.specs.Records.{tableOf}
 use Rattle.files.specs.Files.{fileAnswer}
-use Rattle.printing.specs.Texts.{refusedWord, refusedLine, textAnswer, textAfter, Printed}
+use Rattle.printing.specs.Texts.{refusedWord, refusedLine, loadedText, textAnswer, textAfter, Printed}
 use Rattle.printing.specs.Files.{fileText}
 
--- a reading's answer, and a text that was printed
-module _ (bytes : List ℕ) (text : List ℕ → List ℕ) (out : List ℕ) (a : Answer) (e : a ≡ fileAnswer bytes) (r : Answer) (after : List ℕ) where
+-- the answer a of a loading, which is b, and a text that was printed
+module _ (text out : List ℕ) (a b : Answer) (e : a ≡ b) (r : Answer) (after : List ℕ) where
   -- the line of the refusal
-  pub file-refused : a .code ≢ 0 → Printed (refusedLine a) out r after → Printed (fileText bytes text) out r after
-  unfolding fileText
-  file-refused n p =
-      let w = ne-eqb (fileAnswer bytes .code) 0 (λ z. n (ap (λ x. x .code) e ∙ z)) in
+  pub loading-refused : a .code ≢ 0 → Printed (refusedLine a) out r after → Printed (loadedText b text) out r after
+  unfolding loadedText
+  loading-refused n p =
+      let w = ne-eqb (b .code) 0 (λ z. n (ap (λ x. x .code) e ∙ z)) in
       (p .0 ∙ ap (λ x. textAnswer (refusedLine x) out) e ∙ sym (rw w refl), p .1 ∙ ap (λ x. textAfter (refusedLine x) out) e ∙ sym (rw w refl))
 
-  -- the text of the table
-  pub file-printed : a .code ≡ 0 → Printed (text (tableOf bytes)) out r after → Printed (fileText bytes text) out r after
-  unfolding fileText
-  file-printed z p =
-      let w = eq-eqb (fileAnswer bytes .code) 0 (sym (ap (λ x. x .code) e) ∙ z) in
+  -- the text of what was loaded
+  pub loading-printed : a .code ≡ 0 → Printed text out r after → Printed (loadedText b text) out r after
+  unfolding loadedText
+  loading-printed z p =
+      let w = eq-eqb (b .code) 0 (sym (ap (λ x. x .code) e) ∙ z) in
       (p .0 ∙ sym (rw w refl), p .1 ∙ sym (rw w refl))
 
 -- a line of a refusal: a word and two numbers
@@ -40,7 +40,7 @@ refused-bound a = omega (arith, length-append refusedWord (line (a .code ∷ a .
 
 -- the text of a file is no longer than a bound of the texts of all tables, where the bound is at least 51
 pub text-bound : (bytes : List ℕ) (text : List ℕ → List ℕ) (n : ℕ) → 51 ≤ n → ((t : List ℕ) → length (text t) ≤ n) → length (fileText bytes text) ≤ n
-unfolding fileText
+unfolding loadedText
 text-bound bytes text n few long = go (eqb (fileAnswer bytes .code) 0)
   where
     go : (b : Bool) → length (cond b (text (tableOf bytes)) (refusedLine (fileAnswer bytes))) ≤ n

@@ -7,9 +7,9 @@ use mathlib.Core.Bool.{Bool, true, false}
 use mathlib.Core.List.{List, _++_}
 use native.Mathlib.Omega.{arith}
 use lib.Dec.{ltb, eqb}
-use lib.ListN.{length, take, drop, replicate, length-append, length-replicate}
-use lib.Seq.{take-at}
+use lib.ListN.{length, take, replicate, length-append, length-replicate}
 use borrow.Author.Tests.{eqb-true, eq-eqb, ltb-false, le-ltb, not-false}
+use Rattle.lists.proofs.Stores.{front-is, front-long, front-in}
 use Rattle.history.specs.declared.Answer.{Answer}
 use Rattle.history.specs.Table.{largestCount, rowCount}
 use Rattle.history.specs.Answer.{ragged, overfull, firstMet, passed}
@@ -80,21 +80,21 @@ module _ (t out : List ℕ) where
       long : length (summaryOf t) ≡ a .rows * 5
       long = omega (arith, rows, summary-long t places)
 
-      pub front-is : take (a .rows * 5) numbers ≡ summaryOf t
-      front-is = ap (take (a .rows * 5)) is-written ∙ take-at (summaryOf t) (drop (length (summaryOf t)) places) (a .rows * 5) long
+      numbers-are : take (a .rows * 5) numbers ≡ summaryOf t
+      numbers-are = front-is (summaryOf t) _ numbers (a .rows * 5) long is-written
 
-      pub front-long : a .rows * 5 ≡ length (take (a .rows * 5) numbers)
-      front-long = sym long ∙ ap length (sym front-is)
+      pub numbers-long : a .rows * 5 ≡ length (take (a .rows * 5) numbers)
+      numbers-long = front-long (summaryOf t) _ numbers (a .rows * 5) long is-written
 
-      pub front-in : a .rows * 5 ≤ length numbers
-      front-in = omega (arith, ap length is-written, length-append (summaryOf t) (drop (length (summaryOf t)) places), long)
+      pub numbers-in : a .rows * 5 ≤ length numbers
+      numbers-in = front-in (summaryOf t) _ numbers (a .rows * 5) long is-written
 
       pub report-printed : (r : Answer) (after : List ℕ) → Printed (header ++ linesOf 5 (a .rows) (take (a .rows * 5) numbers)) out r after → Reported r after
       unfolding reportAnswer reportAfter reportTests reportOf firstMet
       report-printed r after p =
           let e = eq-eqb (length t % 5) 0 (whole zero) in
           let f = le-ltb largestCount (rowCount t) (few zero) in
-          let text : header ++ linesOf 5 (a .rows) (take (a .rows * 5) numbers) ≡ reportOf t = rw (rows, ← rows, front-is) refl in
+          let text : header ++ linesOf 5 (a .rows) (take (a .rows * 5) numbers) ≡ reportOf t = rw (rows, ← rows, numbers-are) refl in
           (p .0 ∙ ap (λ x. textAnswer x out) text ∙ sym (rw (e, f) refl), p .1 ∙ ap (λ x. textAfter x out) text ∙ sym (rw (e, f) refl))
 
 -- a table of whole rows, no more than 1,024, is not refused

@@ -1,5 +1,5 @@
-// The histories with known marks of document 01, executed: a line for each call, name,code,row,rows,trials, and where a list was lent a line
-// with the list after the call; held to the file stdout.
+// The histories with known marks of document 01, and logs with known tables, executed: a line for each call, name,code,row,rows,trials, and where
+// a list was lent a line with the list after the call; held to the file stdout.
 use history::Answer;
 use history::Row;
 use libc::STDOUT_FILENO;
@@ -264,6 +264,226 @@ fn written() {
     places(&short);
 }
 
+// One log, loaded into a table of twelve places.
+fn loaded(name: &[u8], log: &[u8]) {
+    let mut table = [90u64, 91, 92, 93, 94, 95, 96, 97, 98, 99, 100, 101];
+    show(name, logs::load(log, &mut table));
+    places(&table);
+}
+
+fn log_headers() {
+    loaded(b"log without a byte", b"");
+    loaded(
+        b"log without a line feed",
+        b"register,kind,value,start,finish",
+    );
+    loaded(b"log of a line feed", b"\n");
+    loaded(b"log of a header", b"register,kind,value,start,finish\n");
+    loaded(
+        b"log with a name missing",
+        b"register,kind,value,start\n7,w,1,2\n",
+    );
+    loaded(
+        b"log with a name twice",
+        b"register,kind,value,start,finish,kind\n7,w,1,2,3,w\n",
+    );
+    loaded(
+        b"log with other names of which one is empty and two alike",
+        b",note,finish,start,note,value,kind,register\n,,3,2,,1,w,7\n",
+    );
+}
+
+// A name is that very name, byte for byte.
+fn log_names() {
+    loaded(
+        b"log with a blank before a name",
+        b"register, kind,value,start,finish\n",
+    );
+    loaded(
+        b"log with a name in capitals",
+        b"register,KIND,value,start,finish\n",
+    );
+    loaded(
+        b"log with a name in quotes",
+        b"register,\"kind\",value,start,finish\n",
+    );
+    loaded(
+        b"log with a carriage return behind a name",
+        b"register,kind,value,start,finish\r\n",
+    );
+    loaded(
+        b"log with such names beside the needed ones",
+        b"register, kind,kind,KIND,value,start,finish,finish\r\n7,r,w,r,1,2,3,\r\n",
+    );
+}
+
+fn log_lines() {
+    loaded(
+        b"log of two lines",
+        b"register,kind,value,start,finish\n7,w,1,2,3\n7,r,1,4,5\n",
+    );
+    loaded(
+        b"log of three lines for a table of two",
+        b"register,kind,value,start,finish\n7,w,1,2,3\n7,r,1,4,5\n7,r,1,6,7\n",
+    );
+    loaded(
+        b"log without the last line feed",
+        b"register,kind,value,start,finish\n7,w,1,2,3\n7,r,1,4,5",
+    );
+    loaded(
+        b"log with an empty line",
+        b"register,kind,value,start,finish\n7,w,1,2,3\n\n",
+    );
+    loaded(
+        b"log with a cell too few",
+        b"register,kind,value,start,finish\n7,w,1,2\n",
+    );
+    loaded(
+        b"log with a cell too many",
+        b"register,kind,value,start,finish\n7,w,1,2,3,\n",
+    );
+}
+
+// What is tested first is what is answered.
+fn log_sequences() {
+    loaded(
+        b"log with a bad header and a bad line",
+        b"register,kind,value,start\n7\n",
+    );
+    loaded(
+        b"log with a bad cell and no line feed",
+        b"register,kind,value,start,finish\n7,W,1,2,3",
+    );
+    loaded(
+        b"log with a bad cell and a cell too many",
+        b"register,kind,value,start,finish\n7,W,1,2,3,4\n",
+    );
+    loaded(
+        b"log with two bad cells",
+        b"finish,kind,value,start,register\n3,w,x,2,x\n",
+    );
+    loaded(
+        b"log with two bad lines",
+        b"register,kind,value,start,finish\n7,w,1,2,\n7,w\n",
+    );
+    loaded(
+        b"log with a bad line behind a full table",
+        b"register,kind,value,start,finish\n7,w,1,2,3\n7,r,1,4,5\n7,r,1,6\n",
+    );
+}
+
+fn log_numbers() {
+    loaded(
+        b"log with zeros and the largest number",
+        b"register,kind,value,start,finish\n000000000000000000000000000000,w,18446744073709551615,0000000000000000000000000000007,3\n",
+    );
+    loaded(
+        b"log with a larger number",
+        b"register,kind,value,start,finish\n7,w,18446744073709551616,2,3\n",
+    );
+    loaded(
+        b"log with a far larger number",
+        b"register,kind,value,start,finish\n7,w,100000000000000000000000,2,3\n",
+    );
+    loaded(
+        b"log with an empty number",
+        b"register,kind,value,start,finish\n7,w,,2,3\n",
+    );
+    loaded(
+        b"log with a sign",
+        b"register,kind,value,start,finish\n7,w,1,+2,3\n",
+    );
+    loaded(
+        b"log with a blank",
+        b"register,kind,value,start,finish\n7,w,1,2 ,3\n",
+    );
+    loaded(
+        b"log with a carriage return",
+        b"register,kind,value,start,finish\n7,w,1,2,3\r\n",
+    );
+}
+
+fn log_kinds() {
+    loaded(
+        b"log with a capital kind",
+        b"register,kind,value,start,finish\n7,R,1,2,3\n",
+    );
+    loaded(
+        b"log with an empty kind",
+        b"register,kind,value,start,finish\n7,,1,2,3\n",
+    );
+    loaded(
+        b"log with a long kind",
+        b"register,kind,value,start,finish\n7,wr,1,2,3\n",
+    );
+    loaded(
+        b"log with a kind as a number",
+        b"register,kind,value,start,finish\n7,1,1,2,3\n",
+    );
+    loaded(
+        b"log with a start above its finish",
+        b"register,kind,value,start,finish\n7,w,1,9,3\n",
+    );
+    loaded(
+        b"log with any bytes in a column that is skipped",
+        b"register,kind,value,start,x,finish\n7,w,1,2,\"\r\x00\xff;',3\n",
+    );
+}
+
+// A byte of a header with one line behind it again and again.
+fn byte_at(header: &[u8], line: &[u8], i: usize) -> u8 {
+    if i < header.len() {
+        return header[i];
+    }
+    let n = line.len();
+    if n < 1 {
+        return 0;
+    }
+    line[(i - header.len()) % n]
+}
+
+// Fills the buffer with such a log, as far as it goes.
+fn repeat(header: &[u8], line: &[u8], log: &mut [u8]) {
+    let mut i: usize = 0;
+    while i < log.len() {
+        log[i] = byte_at(header, line, i);
+        i += 1;
+    }
+}
+
+// One line again and again; of the table the last three places are shown.
+fn many_lines(name: &[u8], log: &mut [u8], table: &mut [u64]) {
+    repeat(b"register,kind,value,start,finish\n", b"7,w,1,2,3\n", log);
+    show(name, logs::load(log, table));
+    let n = table.len();
+    if 3 <= n {
+        places(&[table[n - 3], table[n - 2], table[n - 1]]);
+    }
+}
+
+fn log_limits() {
+    many_lines(
+        b"log of 1024 lines",
+        &mut [0u8; 10273],
+        &mut [9000u64; 5121],
+    );
+    many_lines(
+        b"log of 1024 lines and a place too few",
+        &mut [0u8; 10273],
+        &mut [9000u64; 5119],
+    );
+    many_lines(
+        b"log with one byte more",
+        &mut [0u8; 10274],
+        &mut [9000u64; 5119],
+    );
+    many_lines(
+        b"log of 1025 lines",
+        &mut [0u8; 10283],
+        &mut [9000u64; 5125],
+    );
+}
+
 fn main() {
     histories();
     limits();
@@ -278,4 +498,11 @@ fn main() {
     marked_stamps();
     marked_limits();
     refused_limits();
+    log_headers();
+    log_names();
+    log_lines();
+    log_sequences();
+    log_numbers();
+    log_kinds();
+    log_limits();
 }

@@ -7,7 +7,7 @@ use compare::file::{table_of, MOST_ROWS};
 use compare::random::Random;
 use compare::table::{registers, COLUMNS};
 use compare::tables::table;
-use compare::{calls, histories, shapes, ALLOWANCE};
+use compare::{calls, histories, logs, shapes, ALLOWANCE};
 
 /// What a call is given; each call takes some of it.
 #[derive(Debug, Default)]
@@ -141,6 +141,11 @@ pub fn of_file(random: &mut Random) -> Given {
         damage(&mut bytes, random);
     }
     Given { bytes: bytes.into_boxed_slice(), ..Given::default() }
+}
+
+/// A log with named columns; one in three has faults.
+pub fn of_log(random: &mut Random) -> Given {
+    Given { bytes: logs::log(random).into_boxed_slice(), ..Given::default() }
 }
 
 /// A file and a register.

@@ -4,7 +4,7 @@ use compare::answer::Answer;
 use compare::file::{rows_of, RECORD};
 use compare::random::Random;
 use compare::table::{registers, COLUMNS};
-use compare::{calls, text};
+use compare::{calls, log, text};
 
 use crate::given::{self, Given};
 use crate::lent::{Lent, Needed};
@@ -53,7 +53,7 @@ fn printed(text: String) -> Needed {
     Needed::Bytes(text.len())
 }
 
-pub const KINDS: [Kind; 18] = [
+pub const KINDS: [Kind; 20] = [
     kind!(
         "marker::mark" gives &[0, 1, 2, 3, 4, 5, 6, 7, 8, 9, 10, 11, 12], from given::of_register, needs |g| Needed::Numbers(g.rows());
         |g, lent| mark(&g.table, g.register, g.question, g.allowance, &mut lent.numbers)
@@ -79,6 +79,10 @@ pub const KINDS: [Kind; 18] = [
         |g, lent| select(&g.bytes, g.register, &mut lent.numbers)
     ),
     kind!(
+        "logs::load" gives &[0, 2, 10, 18, 19], from given::of_log, needs |g| Needed::Numbers(log::table_of(&g.bytes).map_or(0, |table| table.len()));
+        |g, lent| load(&g.bytes, &mut lent.numbers)
+    ),
+    kind!(
         "files::write" gives &[0, 1, 2, 4, 10], from given::of_table, needs |g| Needed::Bytes(g.table.len() / COLUMNS * RECORD);
         |g, lent| write(&g.table, &mut lent.bytes)
     ),
@@ -93,6 +97,10 @@ pub const KINDS: [Kind; 18] = [
     kind!(
         "report::road" gives OF_ROOM, from given::of_file, needs |g| printed(text::road_of(&g.bytes));
         |g, lent| road(&g.bytes, &mut lent.bytes)
+    ),
+    kind!(
+        "log_report::log" gives OF_ROOM, from given::of_log, needs |g| printed(text::log_of(&g.bytes));
+        |g, lent| log(&g.bytes, &mut lent.bytes)
     ),
     kind!(
         "sheet::sheet" gives OF_ROOM, from given::of_register, needs |g| printed(text::sheet_of(&g.table, g.register, g.allowance));

@@ -4,6 +4,8 @@
 //! SAFETY of every call: each pointer comes with the length of its slice, and the library reads and writes no place outside.
 
 use compare::answer::Answer;
+use compare::library::answered;
+pub use compare::library::load;
 
 #[link(name = "calls", kind = "static")]
 extern "C" {
@@ -27,6 +29,7 @@ extern "C" {
     fn calls_summary(table: *const u64, cells: usize, list: *mut u64, places: usize, said: *mut u64, four: usize);
     fn calls_report(table: *const u64, cells: usize, out: *mut u8, room: usize, said: *mut u64, four: usize);
     fn calls_road(bytes: *const u8, length: usize, out: *mut u8, room: usize, said: *mut u64, four: usize);
+    fn calls_log(bytes: *const u8, length: usize, out: *mut u8, room: usize, said: *mut u64, four: usize);
     fn calls_sheet(table: *const u64, cells: usize, register: u64, allowance: u64, out: *mut u8, room: usize, said: *mut u64, four: usize);
     fn calls_checked(
         table: *const u64,
@@ -57,13 +60,6 @@ extern "C" {
     fn calls_put_answer(code: u64, row: u64, rows: u64, trials: u64, list: *mut u64, places: usize, said: *mut u64, four: usize);
     fn calls_number(text: *const u8, length: usize, said: *mut u64, four: usize);
     fn calls_numbers(text: *const u8, length: usize, list: *mut u64, places: usize, said: *mut u64, four: usize);
-}
-
-/// The answer that a call writes.
-fn answered(call: impl FnOnce(*mut u64, usize)) -> Answer {
-    let mut said: Box<[u64]> = Box::new([u64::MAX; 4]);
-    call(said.as_mut_ptr(), said.len());
-    Answer { code: said[0], row: said[1], rows: said[2], trials: said[3] }
 }
 
 pub fn mark(table: &[u64], register: u64, question: u64, allowance: u64, list: &mut [u64]) -> Answer {
@@ -106,6 +102,10 @@ pub fn report(table: &[u64], out: &mut [u8]) -> Answer {
 
 pub fn road(bytes: &[u8], out: &mut [u8]) -> Answer {
     answered(|said, four| unsafe { calls_road(bytes.as_ptr(), bytes.len(), out.as_mut_ptr(), out.len(), said, four) })
+}
+
+pub fn log(bytes: &[u8], out: &mut [u8]) -> Answer {
+    answered(|said, four| unsafe { calls_log(bytes.as_ptr(), bytes.len(), out.as_mut_ptr(), out.len(), said, four) })
 }
 
 pub fn sheet(table: &[u64], register: u64, allowance: u64, out: &mut [u8]) -> Answer {

@@ -5,7 +5,7 @@ use compare::codes::{FRESH, SPENT, STALE};
 #[derive(Default)]
 pub struct Tally {
     pub calls: u64,
-    codes: [u64; 18],
+    codes: [u64; 20],
     differences: u64,
 }
 

@@ -2,8 +2,9 @@
 use Rattle.sheet.proofs.Showing.{shown, told}
 use native.Mathlib.Omega.{arith}
 use borrow.Author.Needs.{needs}
+use Rattle.records.specs.Records.{tableOf}
 use Rattle.files.proofs.Loading.{loaded-as, loaded-small, loaded-front, loaded-in, loaded-long}
-use Rattle.printing.proofs.Filing.{file-refused, file-printed}
+use Rattle.printing.proofs.Filing.{loading-refused, loading-printed}
 use Rattle.sheet.specs.Sheet.{examOf}
 use Rattle.file_sheets.specs.Files.{examFile}
 use Rattle.file_sheets.proofs.exam.Statement.{statement}
@@ -23,7 +24,7 @@ same-length c = search needs
 
 returns : tie.Need-returns
 unfolding examFile
-returns c = let a = c .before .before .before .before .before .before .before .before .before .before .before .before .args in (file-refused (a .bytes .now) (λ t. examOf t (a .register) (a .k) (a .list .now)) _ _ (loaded-as _ _ _ (c .before .before .before .before .before .before .before .read .ensures .0 .0) (omega arith)) _ _ (c .before .before .before .before .if1 .taken) (c .before .before .refusal .ensures), (shown _ _ _, told _ _ _ _))
+returns c = let a = c .before .before .before .before .before .before .before .before .before .before .before .before .args in (loading-refused (examOf (tableOf (a .bytes .now)) (a .register) (a .k) (a .list .now)) _ _ _ (loaded-as _ _ _ (c .before .before .before .before .before .before .before .read .ensures .0 .0) (omega arith)) _ _ (c .before .before .before .before .if1 .taken) (c .before .before .refusal .ensures), (shown _ _ _, told _ _ _ _))
 
 mul-end : tie.Need-mul-end
 mul-end c = omega (arith, loaded-small (c .before .before .before .before .before .before .before .before .args .bytes .now) _ (c .before .before .before .read .result) (c .before .before .before .read .last .1 .0) (c .before .before .before .read .ensures .0) (c .if1 .left))
@@ -42,7 +43,7 @@ same-length-2 c = search needs
 
 returns-2 : tie.Need-returns-2
 unfolding examFile
-returns-2 c = let a = c .before .before .before .before .before .before .before .before .before .before .before .before .before .args in let o = c .before .before .before .before .before .before .before .before .read .ensures .0 in (file-printed (a .bytes .now) (λ t. examOf t (a .register) (a .k) (a .list .now)) _ _ (loaded-as _ _ _ (o .0) (omega arith)) _ _ (c .before .before .before .before .before .if1 .left) (rw (loaded-front _ _ _ _ o (c .before .before .before .before .before .if1 .left)) at (c .before .before .checked .ensures .0)), (shown _ _ _, told _ _ _ _))
+returns-2 c = let a = c .before .before .before .before .before .before .before .before .before .before .before .before .before .args in let o = c .before .before .before .before .before .before .before .before .read .ensures .0 in (loading-printed (examOf (tableOf (a .bytes .now)) (a .register) (a .k) (a .list .now)) _ _ _ (loaded-as _ _ _ (o .0) (omega arith)) _ _ (c .before .before .before .before .before .if1 .left) (rw (loaded-front _ _ _ _ o (c .before .before .before .before .before .if1 .left)) at (c .before .before .checked .ensures .0)), (shown _ _ _, told _ _ _ _))
 
 pub exam-spec : {M : Type 1} → statement M
 exam-spec =

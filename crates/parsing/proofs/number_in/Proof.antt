@@ -1,70 +1,17 @@
--- The loop takes byte by byte: what the text says is what the bytes from here on say behind the value so far (`Reading`).
-use Prim.Native.Nat.{_-_}
 use mathlib.Core.Path.{sym, _∙_}
-use native.Mathlib.Omega.{arith}
-use lib.ListN.{length}
 use borrow.Author.Needs.{needs}
-use Rattle.parsing.proofs.Values.{number-empty, number-long, Reading, read-none, read-more, read-other, read-end}
+use Rattle.parsing.proofs.Values.{number-long, number-short}
 use Rattle.parsing.proofs.number_in.Statement.{statement}
 use Rattle.parsing.proofs.number_in.Tie as tie
 
-abbrev Inv-loop : tie.InvT-loop
-Inv-loop text value₀ i₀ value i = Reading text value i
+returns : tie.Need-returns
+returns c = sym (number-long _ (c .if1 .taken))
 
-abbrev μ-loop : tie.MeasureT-loop
-μ-loop text value₀ i₀ value i = length text - i
+number-of-requires : tie.Need-number-of-requires
+number-of-requires c κs = search needs
 
-returns : tie.Need-returns Inv-loop μ-loop
-returns c = sym (number-empty _ (c .if1 .taken))
-
-returns-2 : tie.Need-returns-2 Inv-loop μ-loop
-returns-2 c = sym (number-long _ (c .if2 .taken))
-
-loop-holds : tie.Need-loop-holds Inv-loop μ-loop
-loop-holds c = read-none _ (omega arith) (omega arith)
-
-shared-slice-read-appended : tie.Need-shared-slice-read-appended Inv-loop μ-loop
-shared-slice-read-appended c = omega arith
-
-appended-requires : tie.Need-appended-requires Inv-loop μ-loop
-appended-requires c κs = search needs
-
-add-i : tie.Need-add-i Inv-loop μ-loop
-add-i c = omega arith
-
-enum-known-next : tie.Need-enum-known-next Inv-loop μ-loop
-enum-known-next c = search needs
-
-enum-told : tie.Need-enum-told Inv-loop μ-loop
-enum-told c = search needs
-
-returns-3 : tie.Need-returns-3 Inv-loop μ-loop
-returns-3 c = sym (read-other _ (c .before .before .before .before .before .loop .inv) (omega arith) (sym (c .before .before .appended .ensures) ∙ c .enum-told .given .1))
-
-loop-less : tie.Need-loop-less Inv-loop μ-loop
-loop-less c = omega arith
-
-loop-again : tie.Need-loop-again Inv-loop μ-loop
-loop-again c = read-more _ (c .before .before .before .before .before .before .loop .inv) _ (omega arith) (sym (c .before .before .before .appended .ensures) ∙ c .before .next .given .1)
-
-returns-4 : tie.Need-returns-4 Inv-loop μ-loop
-returns-4 c = sym (read-end _ (c .before .loop .inv) (omega arith))
+returns-2 : tie.Need-returns-2
+returns-2 c = c .number-of .ensures ∙ sym (number-short _ (c .before .if1 .left))
 
 pub number-in-spec : {M : Type 1} → statement M
-number-in-spec =
-    tie.close
-    (tie.spec
-    Inv-loop
-    μ-loop
-    returns
-    returns-2
-    loop-holds
-    shared-slice-read-appended
-    appended-requires
-    add-i
-    enum-known-next
-    enum-told
-    returns-3
-    loop-less
-    loop-again
-    returns-4)
+number-in-spec = tie.close (tie.spec returns number-of-requires returns-2)

@@ -2,7 +2,7 @@ use Rattle.summary.proofs.Telling.{meant}
 -- The summary refuses what the report refuses, or leaves its numbers at the front of the array.
 use native.Mathlib.Omega.{arith}
 use borrow.Author.Needs.{needs}
-use Rattle.report.proofs.Reporting.{report-refused, lines-few, front-long, front-in, report-printed}
+use Rattle.report.proofs.Reporting.{report-refused, lines-few, numbers-long, numbers-in, report-printed}
 use Rattle.report.proofs.report.Statement.{statement}
 use Rattle.report.proofs.report.Tie as tie
 
@@ -19,13 +19,13 @@ mul-n : tie.Need-mul-n
 mul-n c = omega (arith, lines-few _ (c .before .before .before .before .before .before .before .args .out .now) _ _ (c .before .before .before .summary .ensures .0) (omega arith))
 
 array-share-prefix-numbers : tie.Need-array-share-prefix-numbers
-array-share-prefix-numbers c = front-in _ (c .before .before .before .before .before .before .before .args .out .now) _ _ (c .before .before .before .summary .ensures .0) (omega arith)
+array-share-prefix-numbers c = numbers-in _ (c .before .before .before .before .before .before .before .args .out .now) _ _ (c .before .before .before .summary .ensures .0) (omega arith)
 
 slice-aggregate-headed : tie.Need-slice-aggregate-headed
-slice-aggregate-headed c = front-long _ (c .before .before .before .before .before .before .before .before .args .out .now) _ _ (c .before .before .before .before .summary .ensures .0) (omega arith)
+slice-aggregate-headed c = numbers-long _ (c .before .before .before .before .before .before .before .before .args .out .now) _ _ (c .before .before .before .before .summary .ensures .0) (omega arith)
 
 headed-requires : tie.Need-headed-requires
-headed-requires c κs = (omega (arith, front-long _ (c .before .before .before .before .before .before .before .before .before .args .out .now) _ _ (c .before .before .before .before .before .summary .ensures .0) (omega arith)), lines-few _ (c .before .before .before .before .before .before .before .before .before .args .out .now) _ _ (c .before .before .before .before .before .summary .ensures .0) (omega arith))
+headed-requires c κs = (omega (arith, numbers-long _ (c .before .before .before .before .before .before .before .before .before .args .out .now) _ _ (c .before .before .before .before .before .summary .ensures .0) (omega arith)), lines-few _ (c .before .before .before .before .before .before .before .before .before .args .out .now) _ _ (c .before .before .before .before .before .summary .ensures .0) (omega arith))
 
 same-length : tie.Need-same-length
 same-length c = search needs

@@ -3,8 +3,7 @@ use Rattle.summary.proofs.Telling.{meant}
 use native.Mathlib.Omega.{arith}
 use borrow.Author.Needs.{needs}
 use Rattle.files.proofs.Loading.{table-whole, loaded-as, loaded-small, loaded-few, loaded-front, loaded-long, loaded-in}
-use Rattle.report.specs.Report.{reportOf}
-use Rattle.printing.proofs.Filing.{file-refused, file-printed}
+use Rattle.printing.proofs.Filing.{loading-refused, loading-printed}
 use Rattle.report.proofs.Reporting.{report-whole}
 use Rattle.report.proofs.road.Statement.{statement}
 use Rattle.report.proofs.road.Tie as tie
@@ -22,7 +21,7 @@ same-length : tie.Need-same-length
 same-length c = search needs
 
 returns : tie.Need-returns
-returns c = (file-refused _ reportOf _ _ (loaded-as _ _ _ (c .before .before .before .before .before .before .before .read .ensures .0 .0) (omega arith)) _ _ (c .before .before .before .before .if1 .taken) (c .before .before .refusal .ensures), meant _)
+returns c = (loading-refused _ _ _ _ (loaded-as _ _ _ (c .before .before .before .before .before .before .before .read .ensures .0 .0) (omega arith)) _ _ (c .before .before .before .before .if1 .taken) (c .before .before .refusal .ensures), meant _)
 
 mul-n : tie.Need-mul-n
 mul-n c = omega (arith, loaded-small _ _ _ _ (c .before .before .before .read .ensures .0) (omega arith))
@@ -42,7 +41,7 @@ same-length-2 c = search needs
 returns-2 : tie.Need-returns-2
 returns-2 c =
     let o = c .before .before .before .before .before .before .before .before .read .ensures .0 in
-    (file-printed _ reportOf _ _ (loaded-as _ _ _ (o .0) (omega arith)) _ _ (omega arith) (report-whole _ _ (table-whole (c .before .before .before .before .before .before .before .before .before .before .before .before .args .bytes .now)) (loaded-few _ _ _ _ o (omega arith)) _ _ (rw (loaded-front _ _ _ _ o (omega arith)) at (c .before .before .report .ensures .0))), meant _)
+    (loading-printed _ _ _ _ (loaded-as _ _ _ (o .0) (omega arith)) _ _ (omega arith) (report-whole _ _ (table-whole (c .before .before .before .before .before .before .before .before .before .before .before .before .args .bytes .now)) (loaded-few _ _ _ _ o (omega arith)) _ _ (rw (loaded-front _ _ _ _ o (omega arith)) at (c .before .before .report .ensures .0))), meant _)
 
 pub road-spec : {M : Type 1} → statement M
 road-spec =

@@ -1,15 +1,19 @@
 //! The benchmark: the proved library against the plain implementation, in one process on the same bytes.
 //! `speed [MILLISECONDS]`: how long each batch of calls takes at least (default 2); the best of nine batches counts, taken in turn.
 
+mod logs;
+mod timing;
+
 use std::hint::black_box;
-use std::time::{Duration, Instant};
+use std::time::Duration;
 
 use compare::histories::{self, file, file_of, scramble, spread};
 use compare::random::Random;
 use compare::{library, mark};
 
+use timing::best;
+
 const SIZES: [usize; 3] = [64, 256, 1024];
-const BATCHES: usize = 9;
 
 /// A file, and the registers that one timed turn marks.
 struct Case {
@@ -54,40 +58,9 @@ const FAMILIES: [(&str, Maker); 8] = [
 
 type Mark = fn(&[u8], u64, u64) -> u64;
 
-/// A sum of codes, so that no call is left out.
+/// The codes of all the case's registers, added.
 fn turn(call: Mark, case: &Case, question: u64) -> u64 {
     case.registers.iter().map(|&register| call(black_box(&case.bytes), register, question)).sum()
-}
-
-fn batch(call: Mark, case: &Case, question: u64, turns: u32) -> Duration {
-    let begun = Instant::now();
-    for _ in 0..turns {
-        black_box(turn(call, case, question));
-    }
-    begun.elapsed()
-}
-
-/// So many turns as take the least time of a batch.
-fn turns(call: Mark, case: &Case, question: u64, least: Duration) -> u32 {
-    let mut turns = 1;
-    while turns < 1 << 20 && batch(call, case, question, turns) < least {
-        turns *= 2;
-    }
-    turns
-}
-
-/// The best nanoseconds of a turn, of both.
-fn times(case: &Case, question: u64, least: Duration) -> [f64; 2] {
-    let calls: [Mark; 2] = [library::mark, mark];
-    let counts = calls.map(|call| turns(call, case, question, least));
-    let mut best = [f64::INFINITY; 2];
-    for _ in 0..BATCHES {
-        for which in 0..2 {
-            let taken = batch(calls[which], case, question, counts[which]).as_nanos() as f64 / f64::from(counts[which]);
-            best[which] = best[which].min(taken);
-        }
-    }
-    best
 }
 
 fn main() {
@@ -103,7 +76,7 @@ fn main() {
                 for &register in &case.registers {
                     differences += u64::from(library::mark(&case.bytes, register, question) != mark(&case.bytes, register, question));
                 }
-                let [ours, plain] = times(case, question, least);
+                let [ours, plain] = best([&|| turn(library::mark, case, question), &|| turn(mark, case, question)], least);
                 let code = mark(&case.bytes, case.registers[0], question);
                 println!("{name:<24} {size:>5} {question:>2} {code:>5} {ours:>12.0} {plain:>12.0} {:>8.2}", ours / plain);
                 found.push([ours, plain]);
@@ -115,7 +88,8 @@ fn main() {
     for (name, question, ours, plain) in growth {
         println!("{name:<24} {question:>2} {ours:>9.1} {plain:>9.1}");
     }
-    println!("\ndifferent codes: {differences}");
+    differences += logs::compare(least);
+    println!("\ndifferent results: {differences}");
     if differences > 0 {
         std::process::exit(1);
     }

@@ -1,0 +1,114 @@
+//! Random logs: histories of all shapes and sizes, with the columns in any sequence and others among them; damaged ones.
+
+use crate::file::MOST_ROWS;
+use crate::log::{KIND, NAMES};
+use crate::random::Random;
+use crate::shapes;
+use crate::table::COLUMNS;
+
+/// The cells of the lines, the header's first.
+type Grid = Vec<Vec<Vec<u8>>>;
+
+fn one_of<'a>(texts: &[&'a [u8]], random: &mut Random) -> &'a [u8] {
+    texts[random.below(texts.len() as u64) as usize]
+}
+
+/// A name that is not needed.
+fn other_name(random: &mut Random) -> Vec<u8> {
+    one_of(&[b"", b"x", b"note", b"Register", b" kind", b"value ", b"\"start\"", b"finish\r", b"registers", b"\xff\0"], random).to_vec()
+}
+
+/// Any bytes but a comma and a line feed.
+fn other_cell(random: &mut Random) -> Vec<u8> {
+    let some = |random: &mut Random| b"\0\r\"' ;\t7w+\xff"[random.below(11) as usize];
+    (0..random.below(7)).map(|_| some(random)).collect()
+}
+
+/// A number in decimal, sometimes with zeros before it.
+fn decimal(number: u64, random: &mut Random) -> Vec<u8> {
+    let zeros = if random.one_in(8) { random.below(31) as usize } else { 0 };
+    ["0".repeat(zeros), number.to_string()].concat().into_bytes()
+}
+
+/// A cell of a needed column that mostly cannot be read.
+fn bad_cell(random: &mut Random) -> Vec<u8> {
+    match random.below(4) {
+        0 => (u128::from(u64::MAX - 1) + u128::from(random.below(4))).to_string().into_bytes(),
+        1 => (u128::from(random.next()) * 11).to_string().into_bytes(),
+        _ => one_of(&[b"", b"W", b"R", b"o", b"w ", b"wr", b"1", b"-1", b"+1", b" 1", b"1 ", b"1.0", b"0x1", b"1\r", b"/", b":"], random).to_vec(),
+    }
+}
+
+/// The cells of a random history in random columns.
+fn grid(random: &mut Random) -> Grid {
+    let mut columns: Vec<Option<usize>> = (0..COLUMNS).map(Some).collect();
+    columns.resize(COLUMNS + random.below(4) as usize, None);
+    if !random.one_in(4) {
+        random.shuffle(&mut columns);
+    }
+    let header = columns.iter().map(|column| column.map_or_else(|| other_name(random), |number| NAMES[number].to_vec())).collect();
+    let mut grid: Grid = vec![header];
+    for (register, row) in shapes::rows(random) {
+        let numbers = [register, 0, row.value, row.start, row.finish];
+        let mut cell = |column: &Option<usize>| match *column {
+            None => other_cell(random),
+            Some(KIND) => [if row.write { b'w' } else { b'r' }].to_vec(),
+            Some(number) => decimal(numbers[number], random),
+        };
+        grid.push(columns.iter().map(&mut cell).collect());
+    }
+    grid
+}
+
+/// One change to the cells: one of them, how many a line has, a needed name, or how many lines there are.
+fn change(grid: &mut Grid, random: &mut Random) {
+    let line = random.below(grid.len() as u64) as usize;
+    let cell = random.below(grid[line].len().max(1) as u64) as usize;
+    match random.below(10) {
+        0 if cell < grid[line].len() => drop(grid[line].remove(cell)),
+        1 => grid[line].insert(cell, other_cell(random)),
+        2 => grid[0].push(NAMES[random.below(COLUMNS as u64) as usize].to_vec()),
+        3 => grid.iter_mut().for_each(|line| line.push(NAMES[random.below(COLUMNS as u64) as usize].to_vec())),
+        4 => pad(grid, random),
+        5 => grid[line].clear(),
+        _ if cell < grid[line].len() => grid[line][cell] = bad_cell(random),
+        _ => {}
+    }
+}
+
+/// Lines until there are about as many as can be. One in 25 times, since such logs take long.
+fn pad(grid: &mut Grid, random: &mut Random) {
+    let count = 1 + MOST_ROWS - 1 + random.below(3) as usize;
+    if random.one_in(25) && grid.len() > 1 && grid.len() < count {
+        let last = grid[grid.len() - 1].clone();
+        grid.resize(count, last);
+    }
+}
+
+/// One change to the bytes: one of them left out, put in or another, the end cut off, or the last line feed.
+fn damage(text: &mut Vec<u8>, random: &mut Random) {
+    let at = random.below(text.len().max(1) as u64) as usize;
+    let byte = [b',', b'\n', b'\r', b' ', b'0', b'w', random.next() as u8][random.below(7) as usize];
+    match random.below(5) {
+        0 => text.truncate(at),
+        1 => text.insert(at, byte),
+        2 => drop(text.pop()),
+        3 if at < text.len() => drop(text.remove(at)),
+        _ if at < text.len() => text[at] = byte,
+        _ => {}
+    }
+}
+
+/// A log: of the cells as they are, or with some of them changed, or some bytes.
+pub fn log(random: &mut Random) -> Vec<u8> {
+    let mut grid = grid(random);
+    let faults = random.below(6);
+    if faults == 0 {
+        (0..1 + random.below(3)).for_each(|_| change(&mut grid, random));
+    }
+    let mut text: Vec<u8> = grid.iter().flat_map(|line| [&line.join(&b',')[..], b"\n"].concat()).collect();
+    if faults == 1 {
+        (0..1 + random.below(3)).for_each(|_| damage(&mut text, random));
+    }
+    text
+}

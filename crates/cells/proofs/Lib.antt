@@ -1,0 +1,4 @@
+-- Where cells and lines end, and what a cell says, byte by byte.
+pub mod Parting
+pub mod Reading
+pub mod Grids

@@ -1,0 +1,3 @@
+-- Texts with separators: their parts, and what a part says.
+pub mod Parts
+pub mod Grids

@@ -1,0 +1,2 @@
+-- The header's cells, one by one.
+pub mod Heading

@@ -1,0 +1,115 @@
+-- Logs with known answers (document 02, W-201): one table, and one theorem; and a column-shuffled copy, computed.
+-- Assumes nothing.
+use Prim.Native.Nat.{ℕ, zero, suc, _<_}
+use mathlib.Core.Path.{_≡_, refl}
+use mathlib.Core.Logic.{_≢_}
+use mathlib.Core.Bool.{Bool, true, false}
+use mathlib.Core.List.{List, [], _∷_, _++_, map, flatMap, List·Memᴰ as In, List·Memᴰ·head as here, List·Memᴰ·tail as there}
+use native.Mathlib.Omega.{arith}
+use borrow.Author.Tests.{eqb-true, eqb-false}
+use lib.Dec.{eqb}
+use Rattle.lists.specs.Pairs.{Pairs, nil, cons}
+use Rattle.lists.specs.Lists.{put, keep, all, first}
+use Rattle.history.specs.declared.Answer.{Answer}
+use Rattle.history.specs.Answer.{firstMet, passed, refusedBy}
+use Rattle.parsing.specs.Numbers.{isDigit, worth, held, says, numberOf, front, isNumber}
+use Rattle.cells.specs.Parts.{longer, parts, linesFrom, kindOf, same}
+use Rattle.headers.specs.Header.{registerName, kindName, valueName, startName, finishName, more, columnFrom, headerCells, width, namedFrom, isOnly, place, placesOf, complete, soundHeader}
+use Rattle.cells.specs.Grids.{joined, textOf}
+use Rattle.log_tables.specs.Shuffled.{Reorders, shuffled}
+use Rattle.log_tables.specs.Logs.{saidIn, amount, inColumn, dataLines, lineTests, logTests, tableOf, loadTests, loadAnswer, loadTable}
+
+-- What a call gives: its answer, and the table after it.
+pub record Gives : Type 0 where
+  pub answer : Answer
+  pub table : List ℕ
+
+-- A log loaded into a table of six places, and what that gives.
+pub record Case : Type 0 where
+  pub given : Gives
+  pub known : Gives
+
+abbrev lent : List ℕ
+lent = 91 ∷ 92 ∷ 93 ∷ 94 ∷ 95 ∷ 96 ∷ []
+
+abbrev loads : List ℕ → Answer → List ℕ → Case
+loads bs answer table = record { given = record { answer = loadAnswer bs lent; table = loadTable bs lent }; known = record { answer = answer; table = table } }
+
+-- the five names in our sequence, 33 bytes with the line feed; and a line of them, 11 bytes: 7,w,25,3,9
+abbrev header : List ℕ
+header = registerName ++ 44 ∷ kindName ++ 44 ∷ valueName ++ 44 ∷ startName ++ 44 ∷ finishName ++ 10 ∷ []
+
+abbrev line : List ℕ
+line = 55 ∷ 44 ∷ 119 ∷ 44 ∷ 50 ∷ 53 ∷ 44 ∷ 51 ∷ 44 ∷ 57 ∷ 10 ∷ []
+
+-- other columns, one without a name and two of one name: x,finish,kind,,x,start,value,register; and ?,9,r,,7,3,025,7
+abbrev others : List ℕ
+others = 120 ∷ 44 ∷ finishName ++ 44 ∷ kindName ++ 44 ∷ 44 ∷ 120 ∷ 44 ∷ startName ++ 44 ∷ valueName ++ 44 ∷ registerName ++ 10 ∷ []
+
+abbrev otherLine : List ℕ
+otherLine = 63 ∷ 44 ∷ 57 ∷ 44 ∷ 114 ∷ 44 ∷ 44 ∷ 55 ∷ 44 ∷ 51 ∷ 44 ∷ 48 ∷ 50 ∷ 53 ∷ 44 ∷ 55 ∷ 10 ∷ []
+
+-- the same with its columns turned round: register,value,start,x,,kind,finish,x; and 7,025,3,7,,r,9,?
+abbrev turnedCopy : List ℕ
+turnedCopy =
+    registerName ++ 44 ∷ valueName ++ 44 ∷ startName ++ 44 ∷ 120 ∷ 44 ∷ 44 ∷ kindName ++ 44 ∷ finishName ++ 44 ∷ 120 ∷ 10
+    ∷ 55 ∷ 44 ∷ 48 ∷ 50 ∷ 53 ∷ 44 ∷ 51 ∷ 44 ∷ 55 ∷ 44 ∷ 44 ∷ 114 ∷ 44 ∷ 57 ∷ 44 ∷ 63 ∷ 10
+    ∷ []
+
+unfoldable pub cases : List Case
+cases =
+    -- no header line; one without a line feed; a name missing; a name repeated
+    loads [] (refusedBy 18 0) lent
+    ∷ loads registerName (refusedBy 18 0) lent
+    ∷ loads (registerName ++ 44 ∷ kindName ++ 44 ∷ valueName ++ 44 ∷ startName ++ 10 ∷ []) (refusedBy 18 0) lent
+    ∷ loads (kindName ++ 44 ∷ header) (refusedBy 18 0) lent
+    -- no data line; one; one with other columns, and with these turned round; two, for which the table is too short
+    ∷ loads header (passed 0) lent
+    ∷ loads (header ++ line) (passed 1) (7 ∷ 1 ∷ 25 ∷ 3 ∷ 9 ∷ 96 ∷ [])
+    ∷ loads (others ++ otherLine) (passed 1) (7 ∷ 2 ∷ 25 ∷ 3 ∷ 9 ∷ 96 ∷ [])
+    ∷ loads turnedCopy (passed 1) (7 ∷ 2 ∷ 25 ∷ 3 ∷ 9 ∷ 96 ∷ [])
+    ∷ loads (header ++ line ++ line) (refusedBy 10 0) lent
+    -- a line without a line feed, one of one empty cell, one of six cells: at the line
+    ∷ loads (header ++ line ++ 55 ∷ []) (refusedBy 19 44) lent
+    ∷ loads (header ++ line ++ 10 ∷ []) (refusedBy 19 44) lent
+    ∷ loads (header ++ 55 ∷ 44 ∷ line) (refusedBy 19 33) lent
+    -- 7,W,25,3,x: the leftmost; 7,w,,3,9: an empty cell; a carriage return at the end: at the cell
+    ∷ loads (header ++ 55 ∷ 44 ∷ 87 ∷ 44 ∷ 50 ∷ 53 ∷ 44 ∷ 51 ∷ 44 ∷ 120 ∷ 10 ∷ []) (refusedBy 19 35) lent
+    ∷ loads (header ++ 55 ∷ 44 ∷ 119 ∷ 44 ∷ 44 ∷ 51 ∷ 44 ∷ 57 ∷ 10 ∷ []) (refusedBy 19 37) lent
+    ∷ loads (header ++ 55 ∷ 44 ∷ 119 ∷ 44 ∷ 50 ∷ 44 ∷ 51 ∷ 44 ∷ 57 ∷ 13 ∷ 10 ∷ []) (refusedBy 19 41) lent
+    ∷ []
+
+pub known-logs : map (λ x. x .given) cases ≡ map (λ x. x .known) cases
+unfolding cases loadAnswer loadTable loadTests logTests lineTests tableOf dataLines inColumn amount saidIn soundHeader complete placesOf place isOnly namedFrom headerCells columnFrom more same kindOf linesFrom parts longer isNumber front numberOf says held worth isDigit firstMet flatMap put keep all first
+known-logs = refl
+
+-- Columns turned round: n - 1 .. 0 is an order of n columns.
+unfoldable pub turned : ℕ → List ℕ
+turned zero = []
+turned (suc n) = n ∷ turned n
+
+in-turned : (n k : ℕ) → In k (turned n) → k < n
+unfolding turned
+in-turned (suc n) k (here e) = omega arith
+in-turned (suc n) k (there m) = omega (arith, in-turned n k m)
+
+turned-in : (n k : ℕ) → k < n → In k (turned n)
+unfolding turned
+turned-in (suc n) k h = go (eqb k n) refl (turned-in n k)
+  where
+    go : (b : Bool) → eqb k n ≡ b → (k < n → In k (turned n)) → In k (n ∷ turned n)
+    go true e next = here (eqb-true k n e)
+    go false e next = there (next (let d = eqb-false k n e in omega arith))
+
+turned-once : (n : ℕ) → Pairs _≢_ (turned n)
+unfolding turned
+turned-once zero = nil
+turned-once (suc n) = cons (λ (y : ℕ) (m : In y (turned n)) (e : n ≡ y). omega (arith, in-turned n y m)) (turned-once n)
+
+pub turned-reorders : (n : ℕ) → Reorders n (turned n)
+turned-reorders n = record { once = turned-once n; each = turned-in n; only = in-turned n }
+
+-- The log with other columns, and its copy with all columns turned round, which is among the cases.
+pub turned-copy : (width (others ++ otherLine) ≡ 8) × (shuffled (turned 8) (others ++ otherLine) ≡ turnedCopy)
+unfolding turned shuffled textOf joined dataLines headerCells linesFrom parts longer front keep put
+turned-copy = (refl, refl)

@@ -1,0 +1,106 @@
+-- Loading a log: the tests, the answer and the table (document 02, W-201).
+-- Assumes nothing.
+use Prim.Native.Nat.{ℕ, _+_, _*_}
+use mathlib.Core.Bool.{Bool, cond, not}
+use mathlib.Core.List.{List, [], _∷_, _++_, flatMap}
+use lib.Dec.{ltb, leb, eqb}
+use lib.ListN.{length}
+use Rattle.lists.specs.declared.Found.{Found}
+use Rattle.lists.specs.declared.Found.the-variants.{At, Nothing}
+use Rattle.lists.specs.Lists.{first}
+use Rattle.history.specs.declared.Answer.{Answer}
+use Rattle.history.specs.declared.Row.{Row}
+use Rattle.history.specs.Table.{largestCount}
+use Rattle.history.specs.Answer.{overfull, header-fault, unreadable-cell, Test, test, ifSo, firstMet, passed}
+use Rattle.records.specs.Records.{cells}
+use Rattle.files.specs.Files.{roomTest, after}
+use Rattle.parsing.specs.declared.Number.{Number}
+use Rattle.parsing.specs.declared.Number.the-variants.{Is, Nothing as NoNumber}
+use Rattle.parsing.specs.Numbers.{numberOf, isNumber, front}
+use Rattle.cells.specs.Parts.{Part, cellsOf, linesFrom, kindOf}
+use Rattle.headers.specs.declared.Columns.{Columns}
+use Rattle.headers.specs.Header.{soundHeader, columnsOf, width}
+
+-- What a cell says in its column: a kind, a number, or, where the column is skipped, nothing that could not be read (02, W-201, "Kind cells are w or r").
+unfoldable pub saidIn : Columns → ℕ → List ℕ → Number
+saidIn cs k t =
+    cond (eqb k (cs .kind)) (kindOf t)
+    (cond (eqb k (cs .register)) (numberOf t)
+    (cond (eqb k (cs .value)) (numberOf t)
+    (cond (eqb k (cs .start)) (numberOf t)
+    (cond (eqb k (cs .finish)) (numberOf t) (Is 0)))))
+
+abbrev pub said : Columns → Part → Number
+said cs p = saidIn cs (p .number) (p .bytes)
+
+abbrev pub unreadable : Columns → Part → Bool
+unreadable cs p = not (isNumber (said cs p))
+
+-- the number said; 0 where none is
+unfoldable pub amount : Number → ℕ
+amount (Is x) = x
+amount NoNumber = 0
+
+-- The number in column c of some cells; x where they have no such column.
+unfoldable pub inColumn : Columns → ℕ → ℕ → List Part → ℕ
+inColumn cs c x [] = x
+inColumn cs c x (p ∷ ps) = inColumn cs c (cond (eqb (p .number) c) (amount (said cs p)) x) ps
+
+-- The row of a line's cells (02, W-201, "one row a data line"), behind a row so far.
+abbrev pub rowFrom : Columns → Row → List Part → Row
+rowFrom cs r ps =
+    record {
+      register = inColumn cs (cs .register) (r .register) ps;
+      kind = inColumn cs (cs .kind) (r .kind) ps;
+      value = inColumn cs (cs .value) (r .value) ps;
+      start = inColumn cs (cs .start) (r .start) ps;
+      finish = inColumn cs (cs .finish) (r .finish) ps;
+    }
+
+abbrev pub noRow : Row
+noRow = record { register = 0; kind = 0; value = 0; start = 0; finish = 0 }
+
+abbrev pub rowOf : Columns → List Part → Row
+rowOf cs ps = rowFrom cs noRow ps
+
+-- The data lines: those behind the header line (02, W-201, "one row a data line, in sequence").
+unfoldable pub dataLines : List ℕ → List Part
+dataLines bs = linesFrom bs 0 (length (front bs) + 1)
+
+-- A condition on a line, whose row field is the line's offset (02, W-201, "the line's offset").
+abbrev pub atLine : Part → Bool → Found
+atLine l b = cond b (At (l .at)) Nothing
+
+-- The tests of a data line of a text, in a log with some columns in w cells (02, W-201, "each line is tested for 2, line feed, cell count, cells").
+unfoldable pub lineTests : List ℕ → Columns → ℕ → Part → List Test
+lineTests bs cs w l =
+    test overfull (atLine l (leb largestCount (l .number)))
+    ∷ test unreadable-cell (atLine l (not (ltb (l .at + length (l .bytes)) (length bs))))
+    ∷ test unreadable-cell (atLine l (not (eqb (length (cellsOf l)) w)))
+    ∷ test unreadable-cell (first (λ p. p .at) (unreadable cs) (cellsOf l))
+    ∷ []
+
+-- Those of the header, and then of each data line (02, W-201, "It refuses with 18 .. then, in file sequence, with 19").
+unfoldable pub logTests : List ℕ → List Test
+logTests bs = test header-fault (ifSo (not (soundHeader bs))) ∷ flatMap (lineTests bs (columnsOf bs) (width bs)) (dataLines bs)
+
+-- The table of a log: our five numbers, one row a data line, in sequence (02, W-201).
+abbrev pub rowsOf : Columns → List Part → List ℕ
+rowsOf cs ls = flatMap (λ l. cells (rowOf cs (cellsOf l))) ls
+
+unfoldable pub tableOf : List ℕ → List ℕ
+tableOf bs = rowsOf (columnsOf bs) (dataLines bs)
+
+-- What loading answers where the table has room: the first of them that is met, or the count of data lines (02, W-201, "answered as in 01's reading").
+abbrev pub logAnswer : List ℕ → Answer
+logAnswer bs = firstMet (logTests bs) (passed (length (dataLines bs)))
+
+-- Loading into a table of some places (02, W-201, "10 follows the last line").
+unfoldable pub loadTests : List ℕ → ℕ → List Test
+loadTests bs room = logTests bs ++ (roomTest (length (dataLines bs) * 5) room ∷ [])
+
+unfoldable pub loadAnswer : List ℕ → List ℕ → Answer
+loadAnswer bs table = firstMet (loadTests bs (length table)) (passed (length (dataLines bs)))
+
+unfoldable pub loadTable : List ℕ → List ℕ → List ℕ
+loadTable bs table = after (loadAnswer bs table) (tableOf bs) table

@@ -1,0 +1,4 @@
+-- A line's cells and the lines, one by one.
+pub mod Walking
+pub mod Loading
+pub mod Calls

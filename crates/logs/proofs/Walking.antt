@@ -1,0 +1,80 @@
+-- A line walked, cell by cell: what the whole gives is what the cells from here on give.
+-- Assumes nothing.
+use Prim.Native.Nat.{ℕ, _+_, _≤_}
+use mathlib.Core.Path.{_≡_, refl, sym, ap, _∙_}
+use mathlib.Core.Bool.{Bool, true, false, cond, not}
+use mathlib.Core.List.{List}
+use native.Mathlib.Omega.{arith}
+use lib.ListN.{length}
+use Rattle.lists.specs.declared.Found.{Found}
+use Rattle.lists.specs.declared.Found.the-variants.{At, Nothing}
+use Rattle.lists.specs.Lists.{first}
+use Rattle.history.specs.declared.Row.{Row}
+use Rattle.parsing.specs.Numbers.{isNumber}
+use Rattle.cells.specs.Parts.{Part, cellsFrom, cellAt, endOf, commaAt}
+use Rattle.cells.proofs.Parting.{cells-last, cells-more, line-last, line-more, comma-within}
+use Rattle.headers.specs.declared.Columns.{Columns}
+use Rattle.logs.specs.declared.Line.{Line}
+use Rattle.log_tables.specs.Logs.{saidIn, unreadable, amount, inColumn, rowFrom, noRow}
+use Rattle.logs.specs.Steps.{withCell, orElse, walked}
+
+-- a line walked
+line-is : (r s : Row) (m n e f : ℕ) (a b : Found) → r ≡ s → m ≡ n → e ≡ f → a ≡ b
+    → _≡_ {A = Line} (record { row = r; cells = m; end = e; fault = a }) (record { row = s; cells = n; end = f; fault = b })
+line-is r s m n e f a b p q u v = cc
+
+-- what cannot be read, in two steps
+or-step : (f : Found) (u : Bool) (at : ℕ) (g : Found) → orElse f (cond u (At at) g) ≡ orElse (orElse f (cond u (At at) Nothing)) g
+or-step (At n) u at g = refl
+or-step Nothing true at g = refl
+or-step Nothing false at g = refl
+
+or-last : (f : Found) → orElse f Nothing ≡ f
+or-last (At n) = refl
+or-last Nothing = refl
+
+module _ (bs : List ℕ) (cs : Columns) where
+  -- a cell's step: the row with it, and the first fault with it
+  abbrev pub rowBy : Row → ℕ → ℕ → Row
+  rowBy r k at = withCell cs r k (amount (saidIn cs k (cellAt bs at)))
+
+  abbrev pub faultBy : Found → ℕ → ℕ → Found
+  faultBy f k at = orElse f (cond (not (isNumber (saidIn cs k (cellAt bs at)))) (At at) Nothing)
+
+  pub record Walking (start : ℕ) (r : Row) (f : Found) (k at : ℕ) : Type 0 where
+    pub within : at ≤ length bs
+    pub count : k ≤ at
+    pub rest : walked bs cs noRow 0 start Nothing ≡ walked bs cs r k at f
+
+  pub walk-none : (start : ℕ) → start ≤ length bs → Walking start noRow Nothing 0 start
+  walk-none start h = record { within = h; count = omega arith; rest = refl }
+
+  module _ (start : ℕ) (r : Row) (f : Found) (k at : ℕ) (g : Walking start r f k at) (end : ℕ) (ends : end ≡ endOf bs at) where
+    pub walk-more : commaAt bs end ≡ true → Walking start (rowBy r k at) (faultBy f k at) (k + 1) (end + 1)
+    unfolding walked inColumn first
+    walk-more is =
+        let c = cells-more bs at end ends is k in
+        record {
+          within = omega (arith, comma-within bs at end ends is);
+          count = omega (arith, g .count, ends);
+          rest =
+              g .rest
+              ∙ line-is _ _ _ _ _ _ _ _
+              (ap (rowFrom cs r) c)
+              (omega (arith, ap length c))
+              (line-more bs at end ends is)
+              (ap (λ (ps : List Part). orElse f (first (λ p. p .at) (unreadable cs) ps)) c ∙ or-step f (not (isNumber (saidIn cs k (cellAt bs at)))) at _);
+        }
+
+    pub walk-end : commaAt bs end ≡ false
+        → record { row = rowBy r k at; cells = k + 1; end = end; fault = faultBy f k at } ≡ walked bs cs noRow 0 start Nothing
+    unfolding walked inColumn first
+    walk-end is =
+        let c = cells-last bs at end ends is k in
+        sym
+        (g .rest
+        ∙ line-is _ _ _ _ _ _ _ _
+        (ap (rowFrom cs r) c)
+        (omega (arith, ap length c))
+        (line-last bs at end ends is)
+        (ap (λ (ps : List Part). orElse f (first (λ p. p .at) (unreadable cs) ps)) c))

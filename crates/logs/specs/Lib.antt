@@ -1,0 +1,2 @@
+-- What the steps of loading give.
+pub mod Steps

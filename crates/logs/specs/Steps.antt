@@ -1,0 +1,72 @@
+-- What the steps of loading give, each behind what the steps before gave.
+-- Assumes nothing.
+use Prim.Native.Nat.{ℕ, _+_, _*_, _≤_}
+use mathlib.Core.Path.{_≡_}
+use mathlib.Core.Bool.{cond, not}
+use mathlib.Core.List.{List, [], _∷_, _++_, flatMap}
+use lib.Dec.{ltb, leb, eqb}
+use lib.ListN.{length, drop}
+use lib.Seq.{sets}
+use Rattle.lists.specs.declared.Found.{Found}
+use Rattle.lists.specs.declared.Found.the-variants.{At, Nothing}
+use Rattle.lists.specs.Lists.{first}
+use Rattle.history.specs.declared.Answer.{Answer}
+use Rattle.history.specs.declared.Row.{Row}
+use Rattle.history.specs.Table.{largestCount}
+use Rattle.history.specs.Answer.{overfull, unreadable-cell, Test, test, firstMet, passed}
+use Rattle.files.specs.Files.{roomTest}
+use Rattle.parsing.specs.Numbers.{front}
+use Rattle.cells.specs.Parts.{cellsFrom, linesFrom}
+use Rattle.headers.specs.declared.Columns.{Columns}
+use Rattle.logs.specs.declared.Line.{Line}
+use Rattle.log_tables.specs.Logs.{unreadable, rowFrom, lineTests, rowsOf}
+
+-- a row so far, with the number x of column k
+abbrev pub withCell : Columns → Row → ℕ → ℕ → Row
+withCell cs r k x =
+    record {
+      register = cond (eqb k (cs .register)) x (r .register);
+      kind = cond (eqb k (cs .kind)) x (r .kind);
+      value = cond (eqb k (cs .value)) x (r .value);
+      start = cond (eqb k (cs .start)) x (r .start);
+      finish = cond (eqb k (cs .finish)) x (r .finish);
+    }
+
+-- A line walked from a cell on: its row, its cells, its end and its first cell that cannot be read, behind those of the cells before.
+abbrev pub orElse : Found → Found → Found
+orElse (At n) g = At n
+orElse Nothing g = g
+
+unfoldable pub walked : List ℕ → Columns → Row → ℕ → ℕ → Found → Line
+walked bs cs r k at fault =
+    let ps = cellsFrom bs k at in
+    record {
+      row = rowFrom cs r ps;
+      cells = k + length ps;
+      end = at + length (front (drop at bs));
+      fault = orElse fault (first (λ p. p .at) (unreadable cs) ps);
+    }
+
+-- The tests of a data line that was walked, with its row and its offset, in a text of some size and a log of w columns.
+unfoldable pub walkedTests : ℕ → ℕ → ℕ → ℕ → Line → List Test
+walkedTests size n w at line =
+    test overfull (cond (leb largestCount n) (At at) Nothing)
+    ∷ test unreadable-cell (cond (not (ltb (line .end) size)) (At at) Nothing)
+    ∷ test unreadable-cell (cond (not (eqb (line .cells) w)) (At at) Nothing)
+    ∷ test unreadable-cell (line .fault)
+    ∷ []
+
+-- The answer of the data lines alone, which start at an offset: in a table with room for them, and in one of some places.
+abbrev pub foundIn : List ℕ → Columns → ℕ → ℕ → Answer
+foundIn bs cs w start = let ls = linesFrom bs 0 start in firstMet (flatMap (lineTests bs cs w) ls) (passed (length ls))
+
+abbrev pub linesAnswer : List ℕ → Columns → ℕ → ℕ → ℕ → Answer
+linesAnswer bs cs w start room =
+    let ls = linesFrom bs 0 start in firstMet (flatMap (lineTests bs cs w) ls ++ (roomTest (length ls * 5) room ∷ [])) (passed (length ls))
+
+-- What the tests of the data lines leave: their answer r and, where it refuses nothing, their rows at the front of a table.
+pub record Loaded (bs : List ℕ) (cs : Columns) (w start : ℕ) (old new : List ℕ) (r : Answer) : Type 0 where
+  pub room : 5120 ≤ length new
+  pub answer : r ≡ foundIn bs cs w start
+  pub few : r .code ≡ 0 → length (linesFrom bs 0 start) ≤ largestCount
+  pub stored : r .code ≡ 0 → new ≡ sets old 0 (rowsOf cs (linesFrom bs 0 start))
