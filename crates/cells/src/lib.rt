@@ -15,9 +15,13 @@ pub struct Cell {
     pub number: Number,
 }
 
+// Whether a byte ends a cell. Most bytes lie above the comma, and a line feed below it: one comparison tells these.
 fn stops(byte: u8) -> bool
     ensures { λ r. ⌜ r ≡ (eqb byte comma || eqb byte feed) ⌝ }
 {
+    if b',' < byte {
+        return false;
+    }
     if byte == b',' {
         return true;
     }

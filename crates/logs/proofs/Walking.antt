@@ -1,6 +1,6 @@
 -- A line walked, cell by cell: what the whole gives is what the cells from here on give.
 -- Assumes nothing.
-use Prim.Native.Nat.{ℕ, _+_, _≤_}
+use Prim.Native.Nat.{ℕ, _+_, _≤_, _<_}
 use mathlib.Core.Path.{_≡_, refl, sym, ap, _∙_}
 use mathlib.Core.Bool.{Bool, true, false, cond, not}
 use mathlib.Core.List.{List}
@@ -10,8 +10,10 @@ use Rattle.lists.specs.declared.Found.{Found}
 use Rattle.lists.specs.declared.Found.the-variants.{At, Nothing}
 use Rattle.lists.specs.Lists.{first}
 use Rattle.history.specs.declared.Row.{Row}
+use Rattle.parsing.specs.declared.Number.{Number}
 use Rattle.parsing.specs.Numbers.{isNumber}
-use Rattle.cells.specs.Parts.{Part, cellsFrom, cellAt, endOf, commaAt}
+use Rattle.cells.specs.declared.Cell.{Cell}
+use Rattle.cells.specs.Parts.{Part, cellsFrom, cellAt, endOf, saying, commaAt}
 use Rattle.cells.proofs.Parting.{cells-last, cells-more, line-last, line-more, comma-within}
 use Rattle.headers.specs.declared.Columns.{Columns}
 use Rattle.logs.specs.declared.Line.{Line}
@@ -34,13 +36,7 @@ or-last (At n) = refl
 or-last Nothing = refl
 
 module _ (bs : List ℕ) (cs : Columns) where
-  -- a cell's step: the row with it, and the first fault with it
-  abbrev pub rowBy : Row → ℕ → ℕ → Row
-  rowBy r k at = withCell cs r k (amount (saidIn cs k (cellAt bs at)))
-
-  abbrev pub faultBy : Found → ℕ → ℕ → Found
-  faultBy f k at = orElse f (cond (not (isNumber (saidIn cs k (cellAt bs at)))) (At at) Nothing)
-
+  -- the line from a cell on, behind the row, the count and the fault of the cells before
   pub record Walking (start : ℕ) (r : Row) (f : Found) (k at : ℕ) : Type 0 where
     pub within : at ≤ length bs
     pub count : k ≤ at
@@ -49,32 +45,55 @@ module _ (bs : List ℕ) (cs : Columns) where
   pub walk-none : (start : ℕ) → start ≤ length bs → Walking start noRow Nothing 0 start
   walk-none start h = record { within = h; count = omega arith; rest = refl }
 
-  module _ (start : ℕ) (r : Row) (f : Found) (k at : ℕ) (g : Walking start r f k at) (end : ℕ) (ends : end ≡ endOf bs at) where
-    pub walk-more : commaAt bs end ≡ true → Walking start (rowBy r k at) (faultBy f k at) (k + 1) (end + 1)
+  -- a cell that was read, its number, and the row and the fault with it
+  module _ (start : ℕ) (r : Row) (f : Found) (k at : ℕ) (g : Walking start r f k at)
+      (cell : Cell) (read : cell ≡ saying bs at (saidIn cs k (cellAt bs at)))
+      (x : ℕ) (worth : x ≡ amount (cell .number)) (row : Row) (filled : row ≡ withCell cs r k x)
+      (fault : Found) (found : fault ≡ orElse f (cond (not (isNumber (cell .number))) (At at) Nothing)) where
+    number : cell .number ≡ saidIn cs k (cellAt bs at)
+    number = ap (λ (y : Cell). y .number) read
+
+    ends : cell .end ≡ endOf bs at
+    ends = ap (λ (y : Cell). y .end) read
+
+    row-is : row ≡ withCell cs r k (amount (saidIn cs k (cellAt bs at)))
+    row-is = filled ∙ ap (withCell cs r k) (worth ∙ ap amount number)
+
+    fault-is : fault ≡ orElse f (cond (not (isNumber (saidIn cs k (cellAt bs at)))) (At at) Nothing)
+    fault-is = found ∙ ap (λ (n : Number). orElse f (cond (not (isNumber n)) (At at) Nothing)) number
+
+    pub walk-on : commaAt bs (cell .end) ≡ true → cell .end < length bs
+    walk-on is = comma-within bs at (cell .end) ends is
+
+    pub walk-above : at ≤ cell .end
+    walk-above = omega (arith, ends)
+
+    pub walk-more : commaAt bs (cell .end) ≡ true → Walking start row fault (k + 1) (cell .end + 1)
     unfolding walked inColumn first
     walk-more is =
-        let c = cells-more bs at end ends is k in
+        let c = cells-more bs at (cell .end) ends is k in
         record {
-          within = omega (arith, comma-within bs at end ends is);
+          within = omega (arith, walk-on is);
           count = omega (arith, g .count, ends);
           rest =
-              g .rest
+              rw (row-is, fault-is)
+              (g .rest
               ∙ line-is _ _ _ _ _ _ _ _
               (ap (rowFrom cs r) c)
               (omega (arith, ap length c))
-              (line-more bs at end ends is)
-              (ap (λ (ps : List Part). orElse f (first (λ p. p .at) (unreadable cs) ps)) c ∙ or-step f (not (isNumber (saidIn cs k (cellAt bs at)))) at _);
+              (line-more bs at (cell .end) ends is)
+              (ap (λ (ps : List Part). orElse f (first (λ p. p .at) (unreadable cs) ps)) c ∙ or-step f (not (isNumber (saidIn cs k (cellAt bs at)))) at _));
         }
 
-    pub walk-end : commaAt bs end ≡ false
-        → record { row = rowBy r k at; cells = k + 1; end = end; fault = faultBy f k at } ≡ walked bs cs noRow 0 start Nothing
+    pub walk-end : commaAt bs (cell .end) ≡ false → record { row = row; cells = k + 1; end = cell .end; fault = fault } ≡ walked bs cs noRow 0 start Nothing
     unfolding walked inColumn first
     walk-end is =
-        let c = cells-last bs at end ends is k in
-        sym
+        let c = cells-last bs at (cell .end) ends is k in
+        rw (row-is, fault-is)
+        (sym
         (g .rest
         ∙ line-is _ _ _ _ _ _ _ _
         (ap (rowFrom cs r) c)
         (omega (arith, ap length c))
-        (line-last bs at end ends is)
-        (ap (λ (ps : List Part). orElse f (first (λ p. p .at) (unreadable cs) ps)) c))
+        (line-last bs at (cell .end) ends is)
+        (ap (λ (ps : List Part). orElse f (first (λ p. p .at) (unreadable cs) ps)) c)))

@@ -1,4 +1,5 @@
 -- The four tests in their sequence: at each return those before were not met, and this one was.
+use native.Mathlib.Omega.{arith}
 use borrow.Author.Tests.{eq-eqb, ne-eqb, lt-ltb, le-ltb, le-leb, lt-leb}
 use borrow.Author.Needs.{needs}
 use Rattle.logs.specs.Steps.{walkedTests}
@@ -12,7 +13,7 @@ refused-requires c κs = search needs
 
 returns : tie.Need-returns
 unfolding firstMet walkedTests
-returns c = let a = c .before .before .args in rw (le-leb largestCount (a .row) (c .before .if1 .taken)) (c .refused .ensures)
+returns c = let a = c .before .before .args in rw (le-leb largestCount (a .row) (omega arith)) (c .refused .ensures)
 
 refused-requires-2 : tie.Need-refused-requires-2
 refused-requires-2 c κs = search needs
@@ -22,7 +23,7 @@ unfolding firstMet walkedTests
 returns-2 c =
     let a = c .before .before .before .before .args in
     rw
-    (lt-leb largestCount (a .row) (c .before .before .before .if1 .left), le-ltb (a .line .end) (a .size) (c .before .if2 .taken))
+    (lt-leb largestCount (a .row) (omega arith), le-ltb (a .line .end) (a .size) (omega arith))
     (c .refused2 .ensures)
 
 refused-requires-3 : tie.Need-refused-requires-3
@@ -33,7 +34,7 @@ unfolding firstMet walkedTests
 returns-3 c =
     let a = c .before .before .before .before .before .before .args in
     rw
-    (lt-leb largestCount (a .row) (c .before .before .before .before .before .if1 .left), lt-ltb (a .line .end) (a .size) (c .before .before .before .if2 .left), ne-eqb (a .line .cells) (a .width) (c .before .if3 .taken))
+    (lt-leb largestCount (a .row) (omega arith), lt-ltb (a .line .end) (a .size) (omega arith), ne-eqb (a .line .cells) (a .width) (λ e. omega arith))
     (c .refused3 .ensures)
 
 enum-known-fault : tie.Need-enum-known-fault
@@ -53,7 +54,7 @@ unfolding firstMet walkedTests
 returns-4 c =
     let a = c .before .before .before .before .before .before .before .before .before .args in
     rw
-    (lt-leb largestCount (a .row) (c .before .before .before .before .before .before .before .before .if1 .left), lt-ltb (a .line .end) (a .size) (c .before .before .before .before .before .before .if2 .left), eq-eqb (a .line .cells) (a .width) (c .before .before .before .before .if3 .left), c .before .before .fault .given .1)
+    (lt-leb largestCount (a .row) (omega arith), lt-ltb (a .line .end) (a .size) (omega arith), eq-eqb (a .line .cells) (a .width) (omega arith), c .before .before .fault .given .1)
     (c .refused4 .ensures)
 
 returns-5 : tie.Need-returns-5
@@ -61,7 +62,7 @@ unfolding firstMet walkedTests
 returns-5 c =
     let a = c .before .before .before .before .before .before .before .before .args in
     rw
-    (lt-leb largestCount (a .row) (c .before .before .before .before .before .before .before .if1 .left), lt-ltb (a .line .end) (a .size) (c .before .before .before .before .before .if2 .left), eq-eqb (a .line .cells) (a .width) (c .before .before .before .if3 .left), c .before .enum-told .given .1)
+    (lt-leb largestCount (a .row) (omega arith), lt-ltb (a .line .end) (a .size) (omega arith), eq-eqb (a .line .cells) (a .width) (omega arith), c .before .enum-told .given .1)
     (c .passed .ensures)
 
 pub judge-spec : {M : Type 1} → statement M
