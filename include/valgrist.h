@@ -20,7 +20,8 @@ enum valgrist_question {
     VALGRIST_FZF = 3    /* is there a valid 2-atomic order? by FZF */
 };
 
-/* The codes. 10 (short list) and 11 (spent) never come from this call, and 13, 14 and 15 are the order check's. */
+/* The codes. 10 (short list) and 11 (spent) never come from this call; 13, 14 and 15 are the order check's, and 18
+ * (header fault) and 19 (unreadable cell) those of logs with named columns, which have no entry for C. */
 enum valgrist_code {
     VALGRIST_FRESH = 0,            /* fresh: some order of the register's rows is valid and k-atomic */
     VALGRIST_RAGGED = 1,           /* ragged: a table's length is no multiple of 5; a file gives whole rows or 16 */

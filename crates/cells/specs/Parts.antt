@@ -38,14 +38,15 @@ unfoldable pub parts : ℕ → ℕ → ℕ → List ℕ → List Part
 parts c n at [] = part n at [] ∷ []
 parts c n at (b ∷ t) = cond (eqb b c) (part n at [] ∷ parts c (suc n) (suc at) t) (longer n at b (parts c n (suc at) t))
 
--- The cells of a line that begins at an offset (02, W-201, "separated by commas"); those of the text's line from an offset on, the first of them numbered k.
+-- The cells of a line (02, W-201, "separated by commas"); and those of the line that a text has from an offset on, the first of them numbered k.
 abbrev pub cellsOf : Part → List Part
 cellsOf l = parts comma 0 (l .at) (l .bytes)
 
 unfoldable pub cellsFrom : List ℕ → ℕ → ℕ → List Part
 cellsFrom bs k at = parts comma k at (front (drop at bs))
 
--- The lines of a text from an offset on, the first of them numbered n: a line begins where a byte is left (02, W-201, "Every line ends in a line feed").
+-- The lines of a text from an offset on, the first of them numbered n (02, W-201, "Every line ends in a line feed"): a line begins where a byte is
+-- left, so that a last line feed begins none.
 unfoldable pub linesFrom : List ℕ → ℕ → ℕ → List Part
 linesFrom bs n at = keep (λ l. ltb (l .at) (length bs)) (parts feed n at (drop at bs))
 

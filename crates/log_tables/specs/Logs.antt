@@ -1,6 +1,7 @@
 -- Loading a log: the tests, the answer and the table (document 02, W-201).
 -- Assumes nothing.
 use Prim.Native.Nat.{ℕ, _+_, _*_}
+use mathlib.Core.Path.{_≡_}
 use mathlib.Core.Bool.{Bool, cond, not}
 use mathlib.Core.List.{List, [], _∷_, _++_, flatMap}
 use lib.Dec.{ltb, leb, eqb}
@@ -21,7 +22,8 @@ use Rattle.cells.specs.Parts.{Part, cellsOf, linesFrom, kindOf}
 use Rattle.headers.specs.declared.Columns.{Columns}
 use Rattle.headers.specs.Header.{soundHeader, columnsOf, width}
 
--- What a cell says in its column: a kind, a number, or, where the column is skipped, nothing that could not be read (02, W-201, "Kind cells are w or r").
+-- What a cell says in column k: a kind, a number, or in a skipped column 0, whatever it holds (02, W-201, "Kind cells are w or r, those of the other
+-- four one or more decimal digits").
 unfoldable pub saidIn : Columns → ℕ → List ℕ → Number
 saidIn cs k t =
     cond (eqb k (cs .kind)) (kindOf t)
@@ -91,7 +93,7 @@ rowsOf cs ls = flatMap (λ l. cells (rowOf cs (cellsOf l))) ls
 unfoldable pub tableOf : List ℕ → List ℕ
 tableOf bs = rowsOf (columnsOf bs) (dataLines bs)
 
--- What loading answers where the table has room: the first of them that is met, or the count of data lines (02, W-201, "answered as in 01's reading").
+-- What loading answers where the table has room: the first of them met, or the count of data lines (02, W-201, "answered as in 01's reading").
 abbrev pub logAnswer : List ℕ → Answer
 logAnswer bs = firstMet (logTests bs) (passed (length (dataLines bs)))
 
@@ -104,3 +106,7 @@ loadAnswer bs table = firstMet (loadTests bs (length table)) (passed (length (da
 
 unfoldable pub loadTable : List ℕ → List ℕ → List ℕ
 loadTable bs table = after (loadAnswer bs table) (tableOf bs) table
+
+-- A call's answer and the table after it are those of the loading.
+abbrev pub Loads : List ℕ → List ℕ → Answer → List ℕ → Type 0
+Loads bs table answer left = (answer ≡ loadAnswer bs table) × (left ≡ loadTable bs table)

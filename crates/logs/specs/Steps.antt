@@ -14,7 +14,7 @@ use Rattle.history.specs.declared.Answer.{Answer}
 use Rattle.history.specs.declared.Row.{Row}
 use Rattle.history.specs.Table.{largestCount}
 use Rattle.history.specs.Answer.{overfull, unreadable-cell, Test, test, firstMet, passed}
-use Rattle.files.specs.Files.{roomTest}
+use Rattle.files.specs.Files.{roomTest, after}
 use Rattle.parsing.specs.Numbers.{front}
 use Rattle.cells.specs.Parts.{cellsFrom, linesFrom}
 use Rattle.headers.specs.declared.Columns.{Columns}
@@ -70,3 +70,8 @@ pub record Loaded (bs : List ℕ) (cs : Columns) (w start : ℕ) (old new : List
   pub answer : r ≡ foundIn bs cs w start
   pub few : r .code ≡ 0 → length (linesFrom bs 0 start) ≤ largestCount
   pub stored : r .code ≡ 0 → new ≡ sets old 0 (rowsOf cs (linesFrom bs 0 start))
+
+-- What loading the data lines leaves: their answer, and a table with their rows at its front where it refuses nothing.
+abbrev pub LinesLoad : List ℕ → Columns → ℕ → ℕ → List ℕ → Answer → List ℕ → Type 0
+LinesLoad bs cs w start table answer left =
+    (answer ≡ linesAnswer bs cs w start (length table)) × (left ≡ after answer (rowsOf cs (linesFrom bs 0 start)) table)

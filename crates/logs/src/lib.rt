@@ -15,12 +15,11 @@ ghost use lib.Seq.{sets};
 ghost use Rattle.lists.specs.declared.Found.the-variants.{At, Nothing};
 ghost use Rattle.history.specs.Answer.{firstMet, passed};
 ghost use Rattle.records.specs.Records.{cells};
-ghost use Rattle.files.specs.Files.{after};
 ghost use Rattle.parsing.specs.Numbers.{isNumber};
-ghost use Rattle.cells.specs.Parts.{cellAt, saying, linesFrom};
-ghost use Rattle.log_tables.specs.Logs.{saidIn, amount, noRow, rowsOf, loadAnswer, loadTable};
+ghost use Rattle.cells.specs.Parts.{cellAt, saying};
+ghost use Rattle.log_tables.specs.Logs.{saidIn, amount, noRow, Loads};
 ghost use Rattle.log_tables.specs.Shuffled.{LoadsAlike};
-ghost use Rattle.logs.specs.Steps.{withCell, orElse, walked, walkedTests, linesAnswer, Loaded};
+ghost use Rattle.logs.specs.Steps.{withCell, orElse, walked, walkedTests, Loaded, LinesLoad};
 
 // A line that was walked: its row, the count of its cells, where it ends, and its first cell that cannot be read.
 pub struct Line {
@@ -208,7 +207,7 @@ fn load_lines(
     start: usize,
     table: &mut [u64],
 ) -> Answer
-    ensures { λ r. ⌜ (r ≡ linesAnswer (now (bytes .entry)) columns width start (length (now (table .entry)))) × (now (table .exit) ≡ after r (rowsOf columns (linesFrom (now (bytes .entry)) 0 start)) (now (table .entry))) ⌝ }
+    ensures { λ r. ⌜ LinesLoad (now (bytes .entry)) columns width start (now (table .entry)) r (now (table .exit)) ⌝ }
 {
     let mut rows = [0; Row::LARGEST_TABLE];
     let found = lines(bytes, columns, width, start, &mut rows);
@@ -227,7 +226,7 @@ fn load_lines(
 
 // Loads a log into the front of the table. Its copy with the columns in another order loads as the same table.
 pub fn load(bytes: &[u8], table: &mut [u64]) -> Answer
-    ensures outcome { λ r. ⌜ (r ≡ loadAnswer (now (bytes .entry)) (now (table .entry))) × (now (table .exit) ≡ loadTable (now (bytes .entry)) (now (table .entry))) ⌝ }
+    ensures outcome { λ r. ⌜ Loads (now (bytes .entry)) (now (table .entry)) r (now (table .exit)) ⌝ }
     ensures shuffled { λ r. ⌜ (r .code ≡ 0 → LoadsAlike (now (bytes .entry)) (now (table .entry))) ⌝ }
 {
     let header = headers::read_header(bytes);
