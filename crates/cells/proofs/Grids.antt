@@ -11,22 +11,18 @@ use lib.Seq.{drop-drop, drop-append-add, getD-at}
 use Rattle.lists.specs.Lists.{from, upTo}
 use Rattle.parsing.specs.Numbers.{front}
 use Rattle.cells.specs.Parts.{comma, feed, Part, part, longer, parts, linesFrom}
-use Rattle.cells.specs.Grids.{joined, textOf, bytesOf, rearranged}
-use Rattle.cells.proofs.Parting.{Free, free-append, parts-one, parts-more, lines-none, lines-more}
-
--- cells laid out as parts: numbered from k on, the first at an offset, each behind the one before
-unfoldable pub laid : ℕ → ℕ → List (List ℕ) → List Part
-laid k at [] = []
-laid k at (c ∷ cs) = part k at c ∷ laid (suc k) (suc (at + length c)) cs
+use Rattle.cells.specs.Grids.{joined, textOf, bytesOf, rearranged, laid, Free, AllFree}
+use Rattle.cells.proofs.Parting.{free-append, parts-one, parts-more, lines-none, lines-more}
 
 pub length-laid : (k at : ℕ) (cs : List (List ℕ)) → length (laid k at cs) ≡ length cs
 unfolding laid
 length-laid k at [] = refl
 length-laid k at (c ∷ cs) = ap suc (length-laid (suc k) (suc (at + length c)) cs)
 
--- each cell of a line is free of a byte
-abbrev pub AllFree : ℕ → List (List ℕ) → Type 0
-AllFree c cs = (x : List ℕ) → In x cs → Free c x
+pub bytes-laid : (k at : ℕ) (cs : List (List ℕ)) → bytesOf (laid k at cs) ≡ cs
+unfolding laid
+bytes-laid k at [] = refl
+bytes-laid k at (c ∷ cs) = ap (λ (l : List (List ℕ)). c ∷ l) (bytes-laid (suc k) (suc (at + length c)) cs)
 
 -- the cells of joined cells
 pub joined-cells : (k at : ℕ) (c : List ℕ) (cs : List (List ℕ)) → AllFree comma (c ∷ cs) → parts comma k at (joined (c ∷ cs)) ≡ laid k at (c ∷ cs)

@@ -2,3 +2,4 @@
 pub mod Parting
 pub mod Reading
 pub mod Grids
+pub mod Joining

@@ -13,11 +13,7 @@ use lib.Seq.{drop-drop, drop-cons}
 use Rattle.lists.specs.Lists.{put, keep}
 use Rattle.parsing.specs.Numbers.{front, after}
 use Rattle.cells.specs.Parts.{comma, feed, Part, part, longer, parts, cellsFrom, linesFrom, cellIn, cellAt, endOf, commaAt}
-
--- No byte of a text is c.
-abbrev pub Free : ℕ → List ℕ → Type 0
-Free c [] = Unit {0}
-Free c (b ∷ t) = (eqb b c ≡ false) × Free c t
+use Rattle.cells.specs.Grids.{Free}
 
 pub free-append : (c : ℕ) (p q : List ℕ) → Free c p → Free c q → Free c (p ++ q)
 free-append c [] q h g = g

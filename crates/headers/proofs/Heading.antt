@@ -2,19 +2,23 @@
 -- Assumes nothing.
 use Prim.Native.Nat.{ℕ, _+_, _≤_}
 use mathlib.Core.Path.{_≡_, refl, sym, ap, _∙_}
-use mathlib.Core.Bool.{true, false}
+use mathlib.Core.Bool.{Bool, true, false, cond}
 use mathlib.Core.List.{List}
 use native.Mathlib.Nat.{zero-add}
 use native.Mathlib.Omega.{arith}
 use lib.ListN.{length}
 use Rattle.parsing.specs.Numbers.{front}
-use Rattle.cells.specs.Parts.{Part, cellsFrom, cellAt, endOf, commaAt}
+use Rattle.cells.specs.Parts.{cellsFrom, cellAt, endOf, commaAt}
 use Rattle.cells.proofs.Parting.{cells-last, cells-more, line-last, line-more, comma-within}
 use Rattle.cells.proofs.Reading.{end-within}
 use Rattle.headers.specs.declared.Named.{Named}
-use Rattle.headers.specs.declared.Header.{Header}
 use Rattle.headers.specs.Header.{columnFrom, headerCells, width, namedFrom, unnamed, soundHeader}
 use Rattle.headers.specs.Steps.{headerOf, namedWith, headerBy, headerFrom}
+
+-- a test that is the last of all
+pub or-not : (b : Bool) → cond b true false ≡ b
+or-not true = refl
+or-not false = refl
 
 header-is : (size : ℕ) (m n : Named) (j k d e : ℕ) → m ≡ n → j ≡ k → d ≡ e → headerBy size m j d ≡ headerBy size n k e
 header-is size m n j k d e p q r = rw (p, q, r)

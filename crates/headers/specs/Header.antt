@@ -5,6 +5,7 @@ use mathlib.Core.Bool.{Bool, true, false, cond}
 use mathlib.Core.List.{List, [], _∷_}
 use lib.Dec.{ltb}
 use lib.ListN.{length}
+use Rattle.lists.specs.Lists.{all}
 use Rattle.parsing.specs.Numbers.{front}
 use Rattle.cells.specs.Parts.{Part, part, cellsOf, same}
 use Rattle.headers.specs.declared.Column.{Column}
@@ -66,7 +67,7 @@ unnamed = record { register = Missing; kind = Missing; value = Missing; start = 
 abbrev pub namedIn : List ℕ → Named
 namedIn bs = namedFrom unnamed (headerCells bs)
 
--- a name stands once, and where
+-- a name stands once; and where it stands, 0 where it does not stand once
 unfoldable pub isOnly : Column → Bool
 isOnly Missing = false
 isOnly (Only k) = true
@@ -90,12 +91,10 @@ placesOf n =
 
 -- each needed name stands once
 unfoldable pub complete : Named → Bool
-complete n =
-    cond (isOnly (n .register))
-    (cond (isOnly (n .kind)) (cond (isOnly (n .value)) (cond (isOnly (n .start)) (isOnly (n .finish)) false) false) false)
-    false
+complete n = all isOnly (n .register ∷ n .kind ∷ n .value ∷ n .start ∷ n .finish ∷ [])
 
--- The header line ends in a line feed, and each needed name stands in it once (02, W-201, "a header in which a needed name is missing or repeated").
+-- The header line ends in a line feed, and each needed name stands in it once (02, W-201, "a header without one an 18 at 0", "a needed name is missing
+-- or repeated").
 unfoldable pub soundHeader : List ℕ → Bool
 soundHeader bs = cond (ltb (length (front bs)) (length bs)) (complete (namedIn bs)) false
 

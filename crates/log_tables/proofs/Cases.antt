@@ -17,7 +17,7 @@ use Rattle.cells.specs.Parts.{longer, parts, linesFrom, kindOf, same}
 use Rattle.headers.specs.Header.{registerName, kindName, valueName, startName, finishName, more, columnFrom, headerCells, width, namedFrom, isOnly, place, placesOf, complete, soundHeader}
 use Rattle.cells.specs.Grids.{joined, textOf}
 use Rattle.log_tables.specs.Shuffled.{Reorders, shuffled}
-use Rattle.log_tables.specs.Logs.{saidIn, amount, inColumn, dataLines, lineTests, logTests, tableOf, loadTests, loadAnswer, loadTable}
+use Rattle.log_tables.specs.Logs.{saidIn, amount, dataLines, lineTests, logTests, tableOf, loadTests, loadAnswer, loadTable}
 
 -- What a call gives: its answer, and the table after it.
 pub record Gives : Type 0 where
@@ -80,7 +80,7 @@ cases =
     ∷ []
 
 pub known-logs : map (λ x. x .given) cases ≡ map (λ x. x .known) cases
-unfolding cases loadAnswer loadTable loadTests logTests lineTests tableOf dataLines inColumn amount saidIn soundHeader complete placesOf place isOnly namedFrom headerCells columnFrom more same kindOf linesFrom parts longer isNumber front numberOf says held worth isDigit firstMet flatMap put keep all first
+unfolding cases loadAnswer loadTable loadTests logTests lineTests tableOf dataLines amount saidIn soundHeader complete placesOf place isOnly namedFrom headerCells columnFrom more same kindOf linesFrom parts longer isNumber front numberOf says held worth isDigit firstMet flatMap put keep all first
 known-logs = refl
 
 -- Columns turned round: n - 1 .. 0 is an order of n columns.

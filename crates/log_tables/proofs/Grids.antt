@@ -10,7 +10,7 @@ use lib.Dec.{ltb}
 use lib.ListN.{length, drop, length-append, length-map, length-drop}
 use lib.Seq.{drop-drop, drop-append-add}
 use Rattle.lists.specs.declared.Found.the-variants.{Nothing}
-use Rattle.lists.specs.Lists.{upTo, first}
+use Rattle.lists.specs.Lists.{all, first}
 use Rattle.lists.proofs.Ranges.{below-in}
 use Rattle.history.specs.declared.Answer.{Answer}
 use Rattle.history.specs.declared.Row.{Row}
@@ -21,18 +21,19 @@ use Rattle.records.specs.Records.{cells}
 use Rattle.files.specs.Files.{roomTest, after}
 use Rattle.parsing.specs.Numbers.{front}
 use Rattle.cells.specs.Parts.{comma, feed, Part, part, parts, cellsOf, linesFrom}
-use Rattle.cells.specs.Grids.{joined, textOf, bytesOf}
+use Rattle.cells.specs.Grids.{joined, textOf, bytesOf, laid}
 use Rattle.cells.proofs.Parting.{front-free}
-use Rattle.cells.proofs.Grids.{laid, length-laid, AllFree, joined-laid, joined-free, parts-laid, parts-free, parts-keep, front-line, lineParts, length-lines, grid-lines}
+use Rattle.cells.proofs.Grids.{bytes-laid, length-laid, joined-laid, joined-free, parts-laid, parts-free, parts-keep, front-line, lineParts, length-lines, grid-lines}
 use Rattle.headers.specs.declared.Column.{Column}
 use Rattle.headers.specs.declared.Column.the-variants.{Missing, Only, Repeated}
 use Rattle.headers.specs.declared.Columns.{Columns}
 use Rattle.headers.specs.Header.{registerName, kindName, valueName, startName, finishName, columnFrom, headerCells, width, columnOf, namedFrom, isOnly, place, placesOf, complete, soundHeader, columnsOf}
 use Rattle.log_tables.specs.Logs.{unreadable, rowOf, dataLines, lineTests, logTests, rowsOf, tableOf, loadTests, loadAnswer, loadTable}
+use Rattle.log_tables.specs.Grids.{NamesIn, Readable, Grid, rowsTable, GridLoads}
 use Rattle.log_tables.specs.Shuffled.{rowsIn}
 use Rattle.log_tables.proofs.Testing.{lines-coded}
-use Rattle.log_tables.proofs.Places.{Holds, rowBefore, placed-named}
-use Rattle.log_tables.proofs.Rows.{cellOf, Good, rowsTable, said-told, row-said, lines-good, lines-rows, lines-few, lines-free}
+use Rattle.log_tables.proofs.Places.{Holds, placed-named}
+use Rattle.log_tables.proofs.Rows.{said-told, lines-readable, lines-rows, lines-few, lines-free}
 
 -- What a log that loads passes, and that what passes it loads.
 pub record Passes (bs table : List ℕ) : Type 0 where
@@ -69,14 +70,6 @@ module _ (bs table : List ℕ) where
       no-fault-answer (loadTests bs (length table)) (passed (length (dataLines bs)))
       (rw (p .sound), no-fault-append ts rs (p .quiet) (if-not (ltb (length table) (length (dataLines bs) * 5)) (le-ltb (length table) (length (dataLines bs) * 5) (p .room)), tt))
 
--- Each needed name stands in the header's cells once, at the columns ps.
-pub record NamesIn (names : List (List ℕ)) (ps : Columns) : Type 0 where
-  pub register : columnFrom registerName Missing (laid 0 0 names) ≡ Only (ps .register)
-  pub kind : columnFrom kindName Missing (laid 0 0 names) ≡ Only (ps .kind)
-  pub value : columnFrom valueName Missing (laid 0 0 names) ≡ Only (ps .value)
-  pub start : columnFrom startName Missing (laid 0 0 names) ≡ Only (ps .start)
-  pub finish : columnFrom finishName Missing (laid 0 0 names) ≡ Only (ps .finish)
-
 module _ (names : List (List ℕ)) where
   pub place-below : (m : List ℕ) (p : ℕ) → columnFrom m Missing (laid 0 0 names) ≡ Only p → p < length names
   place-below m p e = omega (arith, placed-named m p 0 0 names e .1)
@@ -110,7 +103,7 @@ module _ (bs : List ℕ) (names : List (List ℕ)) (e : headerCells bs ≡ laid 
   column-in m = ap (columnFrom m Missing) e
 
   pub sound-names : soundHeader bs ≡ true → NamesIn names (columnsOf bs)
-  unfolding soundHeader complete namedFrom placesOf
+  unfolding soundHeader complete all namedFrom placesOf
   sound-names t =
       let a = cond-both (ltb (length (front bs)) (length bs)) _ t in
       let r = cond-both (isOnly (columnOf registerName bs)) _ (a .1) in
@@ -122,7 +115,7 @@ module _ (bs : List ℕ) (names : List (List ℕ)) (e : headerCells bs ≡ laid 
         kind = sym (column-in kindName) ∙ only-is (columnOf kindName bs) (k .0);
         value = sym (column-in valueName) ∙ only-is (columnOf valueName bs) (v .0);
         start = sym (column-in startName) ∙ only-is (columnOf startName bs) (s .0);
-        finish = sym (column-in finishName) ∙ only-is (columnOf finishName bs) (s .1);
+        finish = sym (column-in finishName) ∙ only-is (columnOf finishName bs) (cond-both (isOnly (columnOf finishName bs)) _ (s .1) .0);
       }
 
   module _ (ps : Columns) (f : NamesIn names ps) where
@@ -133,22 +126,14 @@ module _ (bs : List ℕ) (names : List (List ℕ)) (e : headerCells bs ≡ laid 
         (column-in registerName ∙ f .register, column-in kindName ∙ f .kind, column-in valueName ∙ f .value, column-in startName ∙ f .start, column-in finishName ∙ f .finish)
 
     pub names-sound : length (front bs) < length bs → soundHeader bs ≡ true
-    unfolding soundHeader complete namedFrom isOnly
+    unfolding soundHeader complete all namedFrom isOnly
     names-sound h =
         rw
         (lt-ltb (length (front bs)) (length bs) h, column-in registerName ∙ f .register, column-in kindName ∙ f .kind, column-in valueName ∙ f .value, column-in startName ∙ f .start, column-in finishName ∙ f .finish)
 
--- A grid that loads: names, and rows below them.
-pub record Grid (names : List (List ℕ)) (rows : List (List (List ℕ))) (ps : Columns) : Type 0 where
-  pub named : NamesIn names ps
-  pub commas : AllFree comma names
-  pub feeds : AllFree feed names
-  pub good : (r : List (List ℕ)) → In r rows → Good ps (length names) r
-  pub few : length rows ≤ largestCount
-
 -- the lines of rows that load, in a text that ends in them, refuse nothing
 module _ (ps : Columns) (w : ℕ) (some : 0 < w) where
-  module _ (r : List (List ℕ)) (good : Good ps w r) (n at : ℕ) where
+  module _ (r : List (List ℕ)) (good : Readable ps w r) (n at : ℕ) where
     row-cells : cellsOf (part n at (joined r)) ≡ laid 0 at r
     row-cells = joined-laid 0 at r (omega (arith, good .wide)) (good .commas)
 
@@ -159,7 +144,7 @@ module _ (ps : Columns) (w : ℕ) (some : 0 < w) where
     row-quiet = ap (first (λ p. p .at) (unreadable ps)) row-cells ∙ said-told ps w r (good .wide) at (good .said)
 
   pub grid-quiet : (bs : List ℕ) (n at : ℕ) (rs : List (List (List ℕ))) → drop at bs ≡ textOf rs → n + length rs ≤ largestCount
-      → ((r : List (List ℕ)) → In r rs → Good ps w r) → NoFault (flatMap (lineTests bs ps w) (lineParts n at rs))
+      → ((r : List (List ℕ)) → In r rs → Readable ps w r) → NoFault (flatMap (lineTests bs ps w) (lineParts n at rs))
   unfolding textOf lineParts flatMap lineTests
   grid-quiet bs n at [] e few good = tt
   grid-quiet bs n at (r ∷ rs) e few good =
@@ -179,13 +164,14 @@ module _ (ps : Columns) (w : ℕ) (some : 0 < w) where
       (grid-quiet bs (n + 1) (at + length j + 1) rs rest (omega arith) (λ x m. good x (there m)))
 
   -- and are the rows
-  pub grid-rows : Holds ps (upTo w) → (n at : ℕ) (rs : List (List (List ℕ))) → ((r : List (List ℕ)) → In r rs → Good ps w r) → rowsOf ps (lineParts n at rs) ≡ rowsTable ps rs
+  pub grid-rows : (n at : ℕ) (rs : List (List (List ℕ))) → ((r : List (List ℕ)) → In r rs → Readable ps w r) → rowsOf ps (lineParts n at rs) ≡ rowsTable ps rs
   unfolding lineParts flatMap
-  grid-rows h n at [] good = refl
-  grid-rows h n at (r ∷ rs) good =
+  grid-rows n at [] good = refl
+  grid-rows n at (r ∷ rs) good =
       let g = good r (here refl) in
-      ap (λ (x : Row). cells x ++ rowsOf ps (lineParts (n + 1) (at + length (joined r) + 1) rs)) (ap (rowOf ps) (row-cells r g n at) ∙ row-said ps w r (g .wide) at h)
-      ∙ ap (λ (t : List ℕ). cells (rowBefore ps (cellOf r)) ++ t) (grid-rows h (n + 1) (at + length (joined r) + 1) rs (λ x m. good x (there m)))
+      ap (λ (x : List (List ℕ)). cells (rowOf ps x) ++ rowsOf ps (lineParts (n + 1) (at + length (joined r) + 1) rs))
+      (ap bytesOf (row-cells r g n at) ∙ bytes-laid 0 at r)
+      ∙ ap (λ (t : List ℕ). cells (rowOf ps r) ++ t) (grid-rows (n + 1) (at + length (joined r) + 1) rs (λ x m. good x (there m)))
 
 -- The text of a grid that loads.
 module _ (names : List (List ℕ)) (rows : List (List (List ℕ))) (ps : Columns) (g : Grid names rows ps) where
@@ -213,7 +199,7 @@ module _ (names : List (List ℕ)) (rows : List (List (List ℕ))) (ps : Columns
   unfolding dataLines
   grid-data =
       ap (λ (t : List ℕ). linesFrom text 0 (length t + 1)) grid-front
-      ∙ grid-lines text 0 (length (joined names) + 1) rows grid-rest (λ r m. g .good r m .feeds)
+      ∙ grid-lines text 0 (length (joined names) + 1) rows grid-rest (λ r m. g .readable r m .feeds)
 
   pub grid-count : length (dataLines (textOf (names ∷ rows))) ≡ length rows
   grid-count = ap length grid-data ∙ length-lines 0 (length (joined names) + 1) rows
@@ -225,7 +211,7 @@ module _ (names : List (List ℕ)) (rows : List (List (List ℕ))) (ps : Columns
         sound = names-sound text names grid-header ps (g .named) (omega (arith, ap length grid-front, ap length grid-text, length-append (joined names) (feed ∷ textOf rows)));
         quiet =
             rw (names-columns text names grid-header ps (g .named), grid-width, grid-data)
-            (grid-quiet ps (length names) (names-some names ps (g .named)) text 0 (length (joined names) + 1) rows grid-rest (omega (arith, g .few)) (g .good));
+            (grid-quiet ps (length names) (names-some names ps (g .named)) text 0 (length (joined names) + 1) rows grid-rest (omega (arith, g .few)) (g .readable));
         room = omega (arith, grid-count);
       }
 
@@ -233,11 +219,10 @@ module _ (names : List (List ℕ)) (rows : List (List (List ℕ))) (ps : Columns
   unfolding tableOf
   grid-table =
       rw (names-columns text names grid-header ps (g .named), grid-data)
-      (grid-rows ps (length names) (names-some names ps (g .named)) (names-hold names ps (g .named) (upTo (length names)) (λ k h. below-in (length names) h)) 0 (length (joined names) + 1) rows (g .good))
+      (grid-rows ps (length names) (names-some names ps (g .named)) 0 (length (joined names) + 1) rows (g .readable))
 
   -- The text of a grid loads as the table of the grid.
-  pub grid-loads : (table : List ℕ) → length rows * 5 ≤ length table
-      → (loadAnswer (textOf (names ∷ rows)) table ≡ passed (length rows)) × (loadTable (textOf (names ∷ rows)) table ≡ rowsTable ps rows ++ drop (length (rowsTable ps rows)) table)
+  pub grid-loads : GridLoads names rows ps
   unfolding loadTable
   grid-loads table room =
       let e = passes-loads text table (grid-passes table room) ∙ ap (λ (k : ℕ). passed k) grid-count in
@@ -268,13 +253,10 @@ module _ (bs table : List ℕ) (pass : Passes bs table) where
         named = named;
         commas = parts-free comma 0 0 (front bs);
         feeds = parts-keep feed comma 0 0 (front bs) (front-free bs);
-        good = lines-good bs (columnsOf bs) (length (bytesOf (headerCells bs))) (dataLines bs) (lines-free bs) quiet-rows;
+        readable = lines-readable bs (columnsOf bs) (length (bytesOf (headerCells bs))) (dataLines bs) (lines-free bs) quiet-rows;
         few = omega (arith, rows-count, lines-few bs (columnsOf bs) (width bs) (length bs) 0 (length (front bs) + 1) (omega arith) (omega arith) (pass .quiet));
       }
 
   pub loads-table : tableOf bs ≡ rowsTable (columnsOf bs) (rowsIn bs)
   unfolding tableOf
-  loads-table =
-      lines-rows bs (columnsOf bs) (length (bytesOf (headerCells bs)))
-      (names-hold (bytesOf (headerCells bs)) (columnsOf bs) named (upTo (length (bytesOf (headerCells bs)))) (λ k h. below-in (length (bytesOf (headerCells bs))) h))
-      (dataLines bs) quiet-rows
+  loads-table = lines-rows (columnsOf bs) (dataLines bs)

@@ -6,3 +6,4 @@ pub mod Rows
 pub mod Grids
 pub mod Shuffling
 pub mod Room
+pub mod Texts

@@ -1,6 +1,6 @@
 -- Columns in another order: where the needed ones stand then, and that a line so rearranged says the same.
 -- Assumes nothing.
-use Prim.Native.Nat.{ℕ, zero, suc, _+_, _≤_, _<_}
+use Prim.Native.Nat.{ℕ, zero, suc, _+_, _-_, _≤_, _<_}
 use mathlib.Core.Path.{_≡_, refl, sym, ap, _∙_}
 use mathlib.Core.Logic.{_≢_}
 use mathlib.Core.Bool.{Bool, true, false, cond, not}
@@ -13,16 +13,14 @@ use Rattle.lists.specs.declared.Found.the-variants.{At, Nothing}
 use Rattle.lists.specs.Lists.{from, first}
 use Rattle.lists.specs.Pairs.{Pairs}
 use Rattle.lists.proofs.Pairs.{pairs-head, pairs-tail}
-use Rattle.history.specs.declared.Row.{Row}
-use Rattle.parsing.specs.declared.Number.{Number}
 use Rattle.parsing.specs.Numbers.{isNumber}
 use Rattle.cells.specs.Parts.{same}
-use Rattle.cells.proofs.Grids.{laid}
+use Rattle.cells.specs.Grids.{rearranged, laid}
 use Rattle.headers.specs.declared.Column.{Column}
 use Rattle.headers.specs.declared.Column.the-variants.{Missing, Only, Repeated}
 use Rattle.headers.specs.declared.Columns.{Columns}
 use Rattle.headers.specs.Header.{more, columnFrom}
-use Rattle.log_tables.specs.Logs.{saidIn, unreadable, amount, inColumn, rowOf}
+use Rattle.log_tables.specs.Logs.{saidIn, unreadable, amount, numberAt}
 
 -- where p stands in an order whose first place is numbered k
 unfoldable pub placeIn : ℕ → ℕ → List ℕ → ℕ
@@ -105,45 +103,6 @@ module _ (cs ps : Columns) (c : ℕ → List ℕ) where
       go true q e (there n) next = next e n
       go false q e m next = let z : _≡_ {A = ℕ} 0 1 = cc in absurd (omega arith)
 
-  -- the number of column p, the last of an order
-  unfoldable picked : ℕ → ℕ → List ℕ → ℕ
-  picked p x [] = x
-  picked p x (j ∷ o) = picked p (cond (eqb j p) (amount (saidIn ps j (c j))) x) o
-
-  picked-keep : (p x : ℕ) (o : List ℕ) → x ≡ amount (saidIn ps p (c p)) → picked p x o ≡ amount (saidIn ps p (c p))
-  unfolding picked
-  picked-keep p x [] e = e
-  picked-keep p x (j ∷ o) e = go (eqb j p) refl (picked-keep p _ o)
-    where
-      go : (b : Bool) → eqb j p ≡ b → (cond (eqb j p) (amount (saidIn ps j (c j))) x ≡ amount (saidIn ps p (c p)) → picked p (cond (eqb j p) (amount (saidIn ps j (c j))) x) o ≡ amount (saidIn ps p (c p)))
-          → picked p (cond (eqb j p) (amount (saidIn ps j (c j))) x) o ≡ amount (saidIn ps p (c p))
-      go true q next = next (rw q (ap (λ (i : ℕ). amount (saidIn ps i (c i))) (eqb-true j p q)))
-      go false q next = next (rw q e)
-
-  picked-is : (p x : ℕ) (o : List ℕ) → In p o → picked p x o ≡ amount (saidIn ps p (c p))
-  unfolding picked
-  picked-is p x (j ∷ o) (here q) = picked-keep p _ o (rw (eq-eqb j p (sym q)) (ap (λ (i : ℕ). amount (saidIn ps i (c i))) (sym q)))
-  picked-is p x (j ∷ o) (there m) = picked-is p _ o m
-
-  column-picked : (q p x k at : ℕ) (o : List ℕ) → Places cs ps k o → Placed q p k o → inColumn cs q x (laid k at (map c o)) ≡ picked p x o
-  unfolding picked inColumn laid
-  column-picked q p x k at [] g h = refl
-  column-picked q p x k at (j ∷ o) g h =
-      ap (λ (b : Bool). inColumn cs q (cond b (amount (saidIn cs k (c j))) x) (laid (suc k) (suc (at + length (c j))) (map c o))) (h .0)
-      ∙ ap (λ (n : Number). inColumn cs q (cond (eqb j p) (amount n) x) (laid (suc k) (suc (at + length (c j))) (map c o))) (said-placed g (c j))
-      ∙ column-picked q p (cond (eqb j p) (amount (saidIn ps j (c j))) x) (suc k) (suc (at + length (c j))) o (places-tail g) (h .1)
-
--- the row that a line's cells c say, by the needed columns
-abbrev pub rowBefore : Columns → (ℕ → List ℕ) → Row
-rowBefore ps c =
-    record {
-      register = amount (saidIn ps (ps .register) (c (ps .register)));
-      kind = amount (saidIn ps (ps .kind) (c (ps .kind)));
-      value = amount (saidIn ps (ps .value) (c (ps .value)));
-      start = amount (saidIn ps (ps .start) (c (ps .start)));
-      finish = amount (saidIn ps (ps .finish) (c (ps .finish)));
-    }
-
 -- the needed columns are among those of an order
 pub record Holds (ps : Columns) (o : List ℕ) : Type 0 where
   pub register : In (ps .register) o
@@ -152,12 +111,32 @@ pub record Holds (ps : Columns) (o : List ℕ) : Type 0 where
   pub start : In (ps .start) o
   pub finish : In (ps .finish) o
 
-pub row-placed : (cs ps : Columns) (c : ℕ → List ℕ) (k at : ℕ) (o : List ℕ) → Places cs ps k o → Holds ps o → rowOf cs (laid k at (map c o)) ≡ rowBefore ps c
-row-placed cs ps c k at o g i =
-    let by : (q p : ℕ) → Placed q p k o → In p o → inColumn cs q 0 (laid k at (map c o)) ≡ amount (saidIn ps p (c p)) =
-    λ q p h m. column-picked cs ps c q p 0 k at o g h ∙ picked-is cs ps c p 0 o m in
-    rw
-    (by (cs .register) (ps .register) (g .register) (i .register), by (cs .kind) (ps .kind) (g .kind) (i .kind), by (cs .value) (ps .value) (g .value) (i .value), by (cs .start) (ps .start) (g .start) (i .start), by (cs .finish) (ps .finish) (g .finish) (i .finish))
+-- what stands at a place of an order: the cell, and what it says
+placed-cell : (c : ℕ → List ℕ) (p k : ℕ) (o : List ℕ) → In p o → getD (map c o) (placeIn k p o - k) [] ≡ c p
+unfolding placeIn
+placed-cell c p k (j ∷ o) m = go (eqb j p) refl (placed-cell c p (suc k) o)
+  where
+    go : (b : Bool) → eqb j p ≡ b → (In p o → getD (map c o) (placeIn (suc k) p o - suc k) [] ≡ c p)
+        → getD (c j ∷ map c o) (cond b k (placeIn (suc k) p o) - k) [] ≡ c p
+    go true e next = let z : k - k ≡ 0 = omega arith in rw z (ap c (eqb-true j p e))
+    go false e next =
+        let z : placeIn (suc k) p o - k ≡ suc (placeIn (suc k) p o - suc k) = omega (arith, place-above (suc k) p o) in
+        rw z (next (in-rest p j o e m))
+
+placed-said : {cs ps : Columns} (p k : ℕ) (o : List ℕ) → Places cs ps k o → In p o → (t : List ℕ) → saidIn cs (placeIn k p o) t ≡ saidIn ps p t
+unfolding placeIn
+placed-said {cs} {ps} p k (j ∷ o) g m t = go (eqb j p) refl (λ n. placed-said p (suc k) o (places-tail g) n t)
+  where
+    go : (b : Bool) → eqb j p ≡ b → (In p o → saidIn cs (placeIn (suc k) p o) t ≡ saidIn ps p t) → saidIn cs (cond b k (placeIn (suc k) p o)) t ≡ saidIn ps p t
+    go true e next = said-placed g t ∙ ap (λ (i : ℕ). saidIn ps i t) (eqb-true j p e)
+    go false e next = next (in-rest p j o e m)
+
+pub number-placed : {cs ps : Columns} (o : List ℕ) → Places cs ps 0 o → (r : List (List ℕ)) (p : ℕ) → In p o
+    → numberAt cs (rearranged o r) (placeIn 0 p o) ≡ numberAt ps r p
+number-placed {cs} {ps} o g r p m =
+    let z : placeIn 0 p o - 0 ≡ placeIn 0 p o = omega arith in
+    let c : getD (rearranged o r) (placeIn 0 p o) [] ≡ getD r p [] = rw z at (placed-cell (λ k. getD r k []) p 0 o m) in
+    ap (λ (t : List ℕ). amount (saidIn cs (placeIn 0 p o) t)) c ∙ ap amount (placed-said p 0 o g m (getD r p []))
 
 -- a name in the header
 module _ (m : List ℕ) where

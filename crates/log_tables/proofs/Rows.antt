@@ -13,30 +13,19 @@ use Rattle.lists.specs.Lists.{upTo, first}
 use Rattle.lists.proofs.Members.{in-keep}
 use Rattle.lists.proofs.Maps.{map-in}
 use Rattle.lists.proofs.Ranges.{below-in, in-below}
-use Rattle.history.specs.declared.Row.{Row}
 use Rattle.history.specs.Table.{largestCount}
 use Rattle.history.proofs.Refusals.{NoFault, no-fault-left, no-fault-right}
 use Rattle.records.specs.Records.{cells}
 use Rattle.parsing.specs.Numbers.{front, isNumber}
 use Rattle.cells.specs.Parts.{comma, feed, Part, part, cellsOf, linesFrom}
-use Rattle.cells.specs.Grids.{bytesOf}
-use Rattle.cells.proofs.Parting.{Free, lines-none, lines-more}
-use Rattle.cells.proofs.Grids.{laid, AllFree, parts-laid, parts-free, parts-keep, each-cell}
+use Rattle.cells.specs.Grids.{bytesOf, laid, Free}
+use Rattle.cells.proofs.Parting.{lines-none, lines-more}
+use Rattle.cells.proofs.Grids.{parts-laid, parts-free, parts-keep, each-cell}
 use Rattle.headers.specs.declared.Columns.{Columns}
-use Rattle.headers.specs.Header.{width}
 use Rattle.log_tables.specs.Logs.{saidIn, unreadable, rowOf, dataLines, lineTests, rowsOf}
-use Rattle.log_tables.proofs.Testing.{line-few}
-use Rattle.log_tables.proofs.Places.{placed-same, Places, Holds, said-quiet, quiet-said, rowBefore, row-placed}
-
-abbrev pub cellOf : List (List ℕ) → ℕ → List ℕ
-cellOf r j = getD r j []
-
--- a row of cells that loads: by its width, and what its cells say in the columns ps
-pub record Good (ps : Columns) (w : ℕ) (r : List (List ℕ)) : Type 0 where
-  pub wide : length r ≡ w
-  pub said : (j : ℕ) → j < w → isNumber (saidIn ps j (getD r j [])) ≡ true
-  pub commas : AllFree comma r
-  pub feeds : AllFree feed r
+use Rattle.log_tables.specs.Grids.{Readable, rowsTable}
+use Rattle.log_tables.proofs.Testing.{line-few, tests-cons}
+use Rattle.log_tables.proofs.Places.{placed-same, Places, said-quiet, quiet-said}
 
 -- Cells laid out from an offset on, in the columns ps: what is told of them, and what they are as a row.
 module _ (ps : Columns) (w : ℕ) where
@@ -51,21 +40,14 @@ module _ (ps : Columns) (w : ℕ) where
       }
 
   module _ (r : List (List ℕ)) (wide : length r ≡ w) (at : ℕ) where
-    in-places : laid 0 at r ≡ laid 0 at (map (cellOf r) (upTo w))
-    in-places = ap (laid 0 at) (sym (each-cell r) ∙ ap (λ (k : ℕ). map (cellOf r) (upTo k)) wide)
+    in-places : laid 0 at r ≡ laid 0 at (map (λ j. getD r j []) (upTo w))
+    in-places = ap (laid 0 at) (sym (each-cell r) ∙ ap (λ (k : ℕ). map (λ j. getD r j []) (upTo k)) wide)
 
     pub told-said : first (λ p. p .at) (unreadable ps) (laid 0 at r) ≡ Nothing → (j : ℕ) → j < w → isNumber (saidIn ps j (getD r j [])) ≡ true
-    told-said e j h = quiet-said ps ps (cellOf r) 0 at (upTo w) same-places (ap (first (λ p. p .at) (unreadable ps)) (sym in-places) ∙ e) j (below-in w h)
+    told-said e j h = quiet-said ps ps (λ j. getD r j []) 0 at (upTo w) same-places (ap (first (λ p. p .at) (unreadable ps)) (sym in-places) ∙ e) j (below-in w h)
 
     pub said-told : ((j : ℕ) → j < w → isNumber (saidIn ps j (getD r j [])) ≡ true) → first (λ p. p .at) (unreadable ps) (laid 0 at r) ≡ Nothing
-    said-told s = ap (first (λ p. p .at) (unreadable ps)) in-places ∙ said-quiet ps ps (cellOf r) 0 at (upTo w) same-places (λ j m. s j (in-below w m))
-
-    pub row-said : Holds ps (upTo w) → rowOf ps (laid 0 at r) ≡ rowBefore ps (cellOf r)
-    row-said h = ap (rowOf ps) in-places ∙ row-placed ps ps (cellOf r) 0 at (upTo w) same-places h
-
--- the table of rows of cells
-abbrev pub rowsTable : Columns → List (List (List ℕ)) → List ℕ
-rowsTable ps rs = flatMap (λ r. cells (rowBefore ps (cellOf r))) rs
+    said-told s = ap (first (λ p. p .at) (unreadable ps)) in-places ∙ said-quiet ps ps (λ j. getD r j []) 0 at (upTo w) same-places (λ j m. s j (in-below w m))
 
 -- The lines of a log that loads.
 module _ (bs : List ℕ) (ps : Columns) (w : ℕ) where
@@ -84,9 +66,9 @@ module _ (bs : List ℕ) (ps : Columns) (w : ℕ) where
     line-laid : cellsOf l ≡ laid 0 (l .at) (bytesOf (cellsOf l))
     line-laid = parts-laid comma 0 (l .at) (l .bytes)
 
-    line-good : Free feed (l .bytes) → Good ps w (bytesOf (cellsOf l))
+    line-readable : Free feed (l .bytes) → Readable ps w (bytesOf (cellsOf l))
     unfolding lineTests
-    line-good free =
+    line-readable free =
         record {
           wide = wide;
           said = told-said ps w (bytesOf (cellsOf l)) wide (l .at) (ap (first (λ p. p .at) (unreadable ps)) (sym line-laid) ∙ quiet .1 .1 .1 .0);
@@ -94,30 +76,19 @@ module _ (bs : List ℕ) (ps : Columns) (w : ℕ) where
           feeds = parts-keep feed comma 0 (l .at) (l .bytes) free;
         }
 
-    line-row : Holds ps (upTo w) → rowOf ps (cellsOf l) ≡ rowBefore ps (cellOf (bytesOf (cellsOf l)))
-    line-row h = ap (rowOf ps) line-laid ∙ row-said ps w (bytesOf (cellsOf l)) wide (l .at) h
-
-  pub lines-good : (ls : List Part) → ((l : Part) → In l ls → Free feed (l .bytes)) → NoFault (flatMap (lineTests bs ps w) ls)
-      → (r : List (List ℕ)) → In r (map (λ l. bytesOf (cellsOf l)) ls) → Good ps w r
+  pub lines-readable : (ls : List Part) → ((l : Part) → In l ls → Free feed (l .bytes)) → NoFault (flatMap (lineTests bs ps w) ls)
+      → (r : List (List ℕ)) → In r (map (λ l. bytesOf (cellsOf l)) ls) → Readable ps w r
   unfolding flatMap
-  lines-good (l ∷ ls) free quiet r (here q) = rw q (line-good l (no-fault-left (lineTests bs ps w l) (flatMap (lineTests bs ps w) ls) quiet) (free l (here refl)))
-  lines-good (l ∷ ls) free quiet r (there m) =
-      lines-good ls (λ x i. free x (there i)) (no-fault-right (lineTests bs ps w l) (flatMap (lineTests bs ps w) ls) quiet) r m
+  lines-readable (l ∷ ls) free quiet r (here q) = rw q (line-readable l (no-fault-left (lineTests bs ps w l) (flatMap (lineTests bs ps w) ls) quiet) (free l (here refl)))
+  lines-readable (l ∷ ls) free quiet r (there m) =
+      lines-readable ls (λ x i. free x (there i)) (no-fault-right (lineTests bs ps w l) (flatMap (lineTests bs ps w) ls) quiet) r m
 
-  pub lines-rows : Holds ps (upTo w) → (ls : List Part) → NoFault (flatMap (lineTests bs ps w) ls) → rowsOf ps ls ≡ rowsTable ps (map (λ l. bytesOf (cellsOf l)) ls)
-  unfolding flatMap
-  lines-rows h [] quiet = refl
-  lines-rows h (l ∷ ls) quiet =
-      ap (λ (x : Row). cells x ++ rowsOf ps ls) (line-row l (no-fault-left (lineTests bs ps w l) (flatMap (lineTests bs ps w) ls) quiet) h)
-      ∙ ap (λ (t : List ℕ). cells (rowBefore ps (cellOf (bytesOf (cellsOf l)))) ++ t)
-      (lines-rows h ls (no-fault-right (lineTests bs ps w l) (flatMap (lineTests bs ps w) ls) quiet))
+pub lines-rows : (ps : Columns) (ls : List Part) → rowsOf ps ls ≡ rowsTable ps (map (λ l. bytesOf (cellsOf l)) ls)
+unfolding flatMap
+lines-rows ps [] = refl
+lines-rows ps (l ∷ ls) = ap (λ (t : List ℕ). cells (rowOf ps (bytesOf (cellsOf l))) ++ t) (lines-rows ps ls)
 
 -- lines that pass test 2 are few
-module _ (bs : List ℕ) (ps : Columns) (w : ℕ) where
-  tests-cons : (l : Part) (ls : List Part) → NoFault (flatMap (lineTests bs ps w) (l ∷ ls)) → NoFault (lineTests bs ps w l ++ flatMap (lineTests bs ps w) ls)
-  unfolding flatMap
-  tests-cons l ls q = q
-
 module _ (bs : List ℕ) (ps : Columns) (w : ℕ) where
   pub lines-few : (left n at : ℕ) → length bs ≤ at + left → n ≤ largestCount → NoFault (flatMap (lineTests bs ps w) (linesFrom bs n at))
       → n + length (linesFrom bs n at) ≤ largestCount

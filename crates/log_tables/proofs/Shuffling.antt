@@ -6,7 +6,7 @@ use mathlib.Core.List.{List, [], _∷_, _++_, map, flatMap, List·Memᴰ as In, 
 use native.Mathlib.Nat.{zero-add}
 use native.Mathlib.Omega.{arith}
 use lib.Dec.{eqb}
-use lib.ListN.{length, drop, length-map}
+use lib.ListN.{length, getD, drop, length-map}
 use Rattle.lists.specs.Lists.{upTo}
 use Rattle.lists.proofs.Maps.{in-map}
 use Rattle.lists.proofs.Ranges.{below-in}
@@ -16,16 +16,17 @@ use Rattle.history.specs.Answer.{passed}
 use Rattle.records.specs.Records.{cells}
 use Rattle.files.specs.Files.{after}
 use Rattle.cells.specs.Parts.{comma, feed, same}
-use Rattle.cells.specs.Grids.{bytesOf, rearranged}
-use Rattle.cells.proofs.Grids.{laid, rearranged-free}
+use Rattle.cells.specs.Grids.{bytesOf, rearranged, laid}
+use Rattle.cells.proofs.Grids.{rearranged-free}
 use Rattle.headers.specs.declared.Column.the-variants.{Missing, Only}
 use Rattle.headers.specs.declared.Columns.{Columns}
 use Rattle.headers.specs.Header.{registerName, kindName, valueName, startName, finishName, columnFrom, headerCells, columnsOf}
-use Rattle.log_tables.specs.Logs.{tableOf, loadAnswer, loadTable}
+use Rattle.log_tables.specs.Logs.{rowOf, tableOf, loadAnswer, loadTable}
+use Rattle.log_tables.specs.Grids.{NamesIn, Readable, Grid, rowsTable}
 use Rattle.log_tables.specs.Shuffled.{Reorders, rowsIn, shuffled, LoadsAlike}
-use Rattle.log_tables.proofs.Places.{placeIn, placed, Places, Holds, said-quiet, rowBefore, row-placed, named-placed, placed-named}
-use Rattle.log_tables.proofs.Rows.{cellOf, Good, rowsTable, told-said, row-said}
-use Rattle.log_tables.proofs.Grids.{loads-passes, passes-loads, NamesIn, place-below, names-hold, Grid, grid-loads, names-wide, rows-count, loads-grid, loads-table}
+use Rattle.log_tables.proofs.Places.{placeIn, placed, Places, Holds, said-quiet, number-placed, named-placed, placed-named}
+use Rattle.log_tables.proofs.Rows.{told-said}
+use Rattle.log_tables.proofs.Grids.{loads-passes, passes-loads, place-below, names-hold, grid-loads, names-wide, rows-count, loads-grid, loads-table}
 
 -- the needed columns in another order
 abbrev pub columnsIn : List ℕ → Columns → Columns
@@ -55,7 +56,7 @@ module _ (names : List (List ℕ)) (ps : Columns) (f : NamesIn names ps) (o : Li
   -- the names so rearranged
   name-after : (m : List ℕ) (p : ℕ) → columnFrom m Missing (laid 0 0 names) ≡ Only p → columnFrom m Missing (laid 0 0 (rearranged o names)) ≡ Only (placeIn 0 p o)
   name-after m p e =
-      named-placed m (cellOf names) p 0 0 o (re .once) (re .each p (place-below names m p e))
+      named-placed m (λ j. getD names j []) p 0 0 o (re .once) (re .each p (place-below names m p e))
       (λ j i. placed-named m p 0 0 names e .2 j (re .only j i) ∙ ap (λ (k : ℕ). eqb k p) (zero-add j))
 
   names-after : NamesIn (rearranged o names) (columnsIn o ps)
@@ -69,38 +70,37 @@ module _ (names : List (List ℕ)) (ps : Columns) (f : NamesIn names ps) (o : Li
       }
 
   wide-after : (r : List (List ℕ)) → length (rearranged o r) ≡ length (rearranged o names)
-  wide-after r = length-map o (cellOf r) ∙ sym (length-map o (cellOf names))
+  wide-after r = length-map o (λ j. getD r j []) ∙ sym (length-map o (λ j. getD names j []))
 
   -- a row so rearranged loads, and says the same
-  module _ (r : List (List ℕ)) (g : Good ps (length names) r) where
+  module _ (r : List (List ℕ)) (g : Readable ps (length names) r) where
     inside : (j : ℕ) → In j o → j < length r
     inside j m = omega (arith, re .only j m, g .wide)
 
-    good-after : Good (columnsIn o ps) (length (rearranged o names)) (rearranged o r)
-    good-after =
+    readable-after : Readable (columnsIn o ps) (length (rearranged o names)) (rearranged o r)
+    readable-after =
         record {
           wide = wide-after r;
           said =
               told-said (columnsIn o ps) (length (rearranged o names)) (rearranged o r) (wide-after r) 0
-              (said-quiet (columnsIn o ps) ps (cellOf r) 0 0 o in-order (λ j m. g .said j (re .only j m)));
+              (said-quiet (columnsIn o ps) ps (λ j. getD r j []) 0 0 o in-order (λ j m. g .said j (re .only j m)));
           commas = rearranged-free comma o r inside (g .commas);
           feeds = rearranged-free feed o r inside (g .feeds);
         }
 
-    row-after : rowBefore (columnsIn o ps) (cellOf (rearranged o r)) ≡ rowBefore ps (cellOf r)
+    row-after : rowOf (columnsIn o ps) (rearranged o r) ≡ rowOf ps r
     row-after =
-        sym
-        (row-said (columnsIn o ps) (length (rearranged o names)) (rearranged o r) (wide-after r) 0
-        (names-hold (rearranged o names) (columnsIn o ps) names-after (upTo (length (rearranged o names))) (λ k h. below-in (length (rearranged o names)) h)))
-        ∙ row-placed (columnsIn o ps) ps (cellOf r) 0 0 o in-order holds
+        let by = number-placed o in-order r in
+        rw
+        (by (ps .register) (holds .register), by (ps .kind) (holds .kind), by (ps .value) (holds .value), by (ps .start) (holds .start), by (ps .finish) (holds .finish))
 
-  rows-after : (rows : List (List (List ℕ))) → ((r : List (List ℕ)) → In r rows → Good ps (length names) r)
+  rows-after : (rows : List (List (List ℕ))) → ((r : List (List ℕ)) → In r rows → Readable ps (length names) r)
       → rowsTable (columnsIn o ps) (map (rearranged o) rows) ≡ rowsTable ps rows
   unfolding flatMap
   rows-after [] good = refl
   rows-after (r ∷ rows) good =
       ap (λ (x : Row). cells x ++ rowsTable (columnsIn o ps) (map (rearranged o) rows)) (row-after r (good r (here refl)))
-      ∙ ap (λ (t : List ℕ). cells (rowBefore ps (cellOf r)) ++ t) (rows-after rows (λ x m. good x (there m)))
+      ∙ ap (λ (t : List ℕ). cells (rowOf ps r) ++ t) (rows-after rows (λ x m. good x (there m)))
 
 -- A grid with its columns in another order loads too.
 pub grid-after : (names : List (List ℕ)) (rows : List (List (List ℕ))) (ps : Columns) → Grid names rows ps → (o : List ℕ) → Reorders (length names) o
@@ -110,10 +110,10 @@ grid-after names rows ps g o re =
       named = names-after names ps (g .named) o re;
       commas = rearranged-free comma o names (re .only) (g .commas);
       feeds = rearranged-free feed o names (re .only) (g .feeds);
-      good =
+      readable =
           λ x m.
           let f = in-map (rearranged o) rows m in
-          rw (f .2) (good-after names ps (g .named) o re (f .0) (g .good (f .0) (f .1)));
+          rw (f .2) (readable-after names ps (g .named) o re (f .0) (g .readable (f .0) (f .1)));
       few = omega (arith, length-map rows (rearranged o), g .few);
     }
 
@@ -130,7 +130,7 @@ shuffled-loads bs table z o re =
     let copy = grid-loads (rearranged o names) (map (rearranged o) rows) (columnsIn o (columnsOf bs)) (grid-after names rows (columnsOf bs) g o re′) table (omega (arith, many, rows-count bs table p, p .room)) in
     let e = passes-loads bs table p in
     let same-table : rowsTable (columnsIn o (columnsOf bs)) (map (rearranged o) rows) ≡ tableOf bs =
-    rows-after names (columnsOf bs) (g .named) o re′ rows (g .good) ∙ sym (loads-table bs table p) in (
+    rows-after names (columnsOf bs) (g .named) o re′ rows (g .readable) ∙ sym (loads-table bs table p) in (
       copy .0 ∙ ap (λ (k : ℕ). passed k) (many ∙ rows-count bs table p) ∙ sym e,
       copy .1 ∙ ap (λ (t : List ℕ). t ++ drop (length t) table) same-table ∙ ap (λ (a : Answer). after a (tableOf bs) table) (sym e),
     )

@@ -3,7 +3,7 @@
 use Prim.Native.Nat.{ℕ, _*_, _<_}
 use mathlib.Core.Path.{_≡_, refl}
 use mathlib.Core.Bool.{Bool, true, false, cond}
-use mathlib.Core.List.{List, [], _∷_, flatMap}
+use mathlib.Core.List.{List, [], _∷_, _++_, flatMap}
 use native.Mathlib.Omega.{arith}
 use borrow.Author.Tests.{leb-false}
 use lib.Dec.{leb}
@@ -37,3 +37,8 @@ module _ (bs : List ℕ) (cs : Columns) (w : ℕ) where
       go : (b : Bool) → leb largestCount (l .number) ≡ b → cond b (At (l .at)) Nothing ≡ Nothing → l .number < largestCount
       go true e q = let z : _≡_ {A = ℕ} 0 1 = cc in absurd (omega arith)
       go false e q = leb-false largestCount (l .number) e
+
+  -- the tests of the first of some lines come first
+  pub tests-cons : (l : Part) (ls : List Part) → NoFault (flatMap (lineTests bs cs w) (l ∷ ls)) → NoFault (lineTests bs cs w l ++ flatMap (lineTests bs cs w) ls)
+  unfolding flatMap
+  tests-cons l ls q = q

@@ -5,7 +5,7 @@ use mathlib.Core.Path.{_≡_}
 use mathlib.Core.Bool.{Bool, cond, not}
 use mathlib.Core.List.{List, [], _∷_, _++_, flatMap}
 use lib.Dec.{ltb, leb, eqb}
-use lib.ListN.{length}
+use lib.ListN.{length, getD}
 use Rattle.lists.specs.declared.Found.{Found}
 use Rattle.lists.specs.declared.Found.the-variants.{At, Nothing}
 use Rattle.lists.specs.Lists.{first}
@@ -19,6 +19,7 @@ use Rattle.parsing.specs.declared.Number.{Number}
 use Rattle.parsing.specs.declared.Number.the-variants.{Is, Nothing as NoNumber}
 use Rattle.parsing.specs.Numbers.{numberOf, isNumber, front}
 use Rattle.cells.specs.Parts.{Part, cellsOf, linesFrom, kindOf}
+use Rattle.cells.specs.Grids.{bytesOf}
 use Rattle.headers.specs.declared.Columns.{Columns}
 use Rattle.headers.specs.Header.{soundHeader, columnsOf, width}
 
@@ -43,42 +44,35 @@ unfoldable pub amount : Number → ℕ
 amount (Is x) = x
 amount NoNumber = 0
 
--- The number in column c of some cells; x where they have no such column.
-unfoldable pub inColumn : Columns → ℕ → ℕ → List Part → ℕ
-inColumn cs c x [] = x
-inColumn cs c x (p ∷ ps) = inColumn cs c (cond (eqb (p .number) c) (amount (said cs p)) x) ps
+-- The number that a line's cells have in column k.
+abbrev pub numberAt : Columns → List (List ℕ) → ℕ → ℕ
+numberAt cs r k = amount (saidIn cs k (getD r k []))
 
--- The row of a line's cells (02, W-201, "one row a data line"), behind a row so far.
-abbrev pub rowFrom : Columns → Row → List Part → Row
-rowFrom cs r ps =
+-- The row of a line's cells: the numbers in the needed columns (02, W-201, "one row a data line").
+abbrev pub rowOf : Columns → List (List ℕ) → Row
+rowOf cs r =
     record {
-      register = inColumn cs (cs .register) (r .register) ps;
-      kind = inColumn cs (cs .kind) (r .kind) ps;
-      value = inColumn cs (cs .value) (r .value) ps;
-      start = inColumn cs (cs .start) (r .start) ps;
-      finish = inColumn cs (cs .finish) (r .finish) ps;
+      register = numberAt cs r (cs .register);
+      kind = numberAt cs r (cs .kind);
+      value = numberAt cs r (cs .value);
+      start = numberAt cs r (cs .start);
+      finish = numberAt cs r (cs .finish);
     }
-
-abbrev pub noRow : Row
-noRow = record { register = 0; kind = 0; value = 0; start = 0; finish = 0 }
-
-abbrev pub rowOf : Columns → List Part → Row
-rowOf cs ps = rowFrom cs noRow ps
 
 -- The data lines: those behind the header line (02, W-201, "one row a data line, in sequence").
 unfoldable pub dataLines : List ℕ → List Part
 dataLines bs = linesFrom bs 0 (length (front bs) + 1)
 
 -- A condition on a line, whose row field is the line's offset (02, W-201, "the line's offset").
-abbrev pub atLine : Part → Bool → Found
-atLine l b = cond b (At (l .at)) Nothing
+abbrev pub atLine : ℕ → Bool → Found
+atLine at b = cond b (At at) Nothing
 
 -- The tests of a data line of a text, in a log with some columns in w cells (02, W-201, "each line is tested for 2, line feed, cell count, cells").
 unfoldable pub lineTests : List ℕ → Columns → ℕ → Part → List Test
 lineTests bs cs w l =
-    test overfull (atLine l (leb largestCount (l .number)))
-    ∷ test unreadable-cell (atLine l (not (ltb (l .at + length (l .bytes)) (length bs))))
-    ∷ test unreadable-cell (atLine l (not (eqb (length (cellsOf l)) w)))
+    test overfull (atLine (l .at) (leb largestCount (l .number)))
+    ∷ test unreadable-cell (atLine (l .at) (not (ltb (l .at + length (l .bytes)) (length bs))))
+    ∷ test unreadable-cell (atLine (l .at) (not (eqb (length (cellsOf l)) w)))
     ∷ test unreadable-cell (first (λ p. p .at) (unreadable cs) (cellsOf l))
     ∷ []
 
@@ -88,7 +82,7 @@ logTests bs = test header-fault (ifSo (not (soundHeader bs))) ∷ flatMap (lineT
 
 -- The table of a log: our five numbers, one row a data line, in sequence (02, W-201).
 abbrev pub rowsOf : Columns → List Part → List ℕ
-rowsOf cs ls = flatMap (λ l. cells (rowOf cs (cellsOf l))) ls
+rowsOf cs ls = flatMap (λ l. cells (rowOf cs (bytesOf (cellsOf l)))) ls
 
 unfoldable pub tableOf : List ℕ → List ℕ
 tableOf bs = rowsOf (columnsOf bs) (dataLines bs)

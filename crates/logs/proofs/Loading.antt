@@ -10,6 +10,7 @@ use lib.ListN.{length, drop, length-drop}
 use lib.Seq.{sets}
 use Rattle.lists.specs.declared.Found.the-variants.{Nothing}
 use Rattle.history.specs.declared.Answer.{Answer}
+use Rattle.history.specs.declared.Row.{Row}
 use Rattle.history.specs.Table.{largestCount}
 use Rattle.history.specs.Answer.{Test, firstMet, passed}
 use Rattle.history.proofs.Refusals.{NoFault, code-no-fault, no-fault-answer, met-append}
@@ -19,12 +20,14 @@ use Rattle.text.proofs.Putting.{Putting, put-none, put-more, put-all}
 use Rattle.parsing.specs.Numbers.{front}
 use Rattle.parsing.proofs.Lines.{front-length}
 use Rattle.cells.specs.Parts.{Part, part, cellsOf, cellsFrom, linesFrom}
+use Rattle.cells.specs.Grids.{bytesOf}
 use Rattle.cells.proofs.Parting.{lines-none, lines-more}
 use Rattle.headers.specs.declared.Columns.{Columns}
 use Rattle.logs.specs.declared.Line.{Line}
-use Rattle.log_tables.specs.Logs.{noRow, rowOf, lineTests, rowsOf}
+use Rattle.log_tables.specs.Logs.{rowOf, lineTests, rowsOf}
 use Rattle.log_tables.proofs.Testing.{length-rows, line-coded, line-few}
-use Rattle.logs.specs.Steps.{walked, walkedTests, foundIn, Loaded}
+use Rattle.logs.proofs.Filling.{row-filled}
+use Rattle.logs.specs.Steps.{noRow, walked, walkedTests, foundIn, Loaded}
 
 module _ (bs : List ℕ) (cs : Columns) (w : ℕ) where
   -- the tests of a line that was walked are the line's
@@ -125,7 +128,9 @@ module _ (bs : List ℕ) (cs : Columns) (w : ℕ) where
                 few = omega (arith, load-few);
                 whole = on ∙ no-fault-answer (lineTests bs cs w here) _ quiet;
                 put =
-                    put-more (g .put) (cells (rowOf cs (cellsOf here))) (rowsOf cs rest) (ap (rowsOf cs) split) out ((n + 1) * 5)
-                    (s ∙ ap (λ (x : Line). sets table (n * 5) (cells (x .row))) e)
+                    put-more (g .put) (cells (rowOf cs (bytesOf (cellsOf here)))) (rowsOf cs rest) (ap (rowsOf cs) split) out ((n + 1) * 5)
+                    (s
+                    ∙ ap (λ (x : Line). sets table (n * 5) (cells (x .row))) e
+                    ∙ ap (λ (x : Row). sets table (n * 5) (cells x)) (row-filled cs at (front (drop at bs))))
                     (omega arith);
               }

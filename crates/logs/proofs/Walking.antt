@@ -13,12 +13,12 @@ use Rattle.history.specs.declared.Row.{Row}
 use Rattle.parsing.specs.declared.Number.{Number}
 use Rattle.parsing.specs.Numbers.{isNumber}
 use Rattle.cells.specs.declared.Cell.{Cell}
-use Rattle.cells.specs.Parts.{Part, cellsFrom, cellAt, endOf, saying, commaAt}
+use Rattle.cells.specs.Parts.{Part, cellAt, endOf, saying, commaAt}
 use Rattle.cells.proofs.Parting.{cells-last, cells-more, line-last, line-more, comma-within}
 use Rattle.headers.specs.declared.Columns.{Columns}
 use Rattle.logs.specs.declared.Line.{Line}
-use Rattle.log_tables.specs.Logs.{saidIn, unreadable, amount, inColumn, rowFrom, noRow}
-use Rattle.logs.specs.Steps.{withCell, orElse, walked}
+use Rattle.log_tables.specs.Logs.{saidIn, unreadable, amount}
+use Rattle.logs.specs.Steps.{inColumn, rowFrom, noRow, withCell, orElse, walked}
 
 -- a line walked
 line-is : (r s : Row) (m n e f : ℕ) (a b : Found) → r ≡ s → m ≡ n → e ≡ f → a ≡ b
@@ -30,10 +30,6 @@ or-step : (f : Found) (u : Bool) (at : ℕ) (g : Found) → orElse f (cond u (At
 or-step (At n) u at g = refl
 or-step Nothing true at g = refl
 or-step Nothing false at g = refl
-
-or-last : (f : Found) → orElse f Nothing ≡ f
-or-last (At n) = refl
-or-last Nothing = refl
 
 module _ (bs : List ℕ) (cs : Columns) where
   -- the line from a cell on, behind the row, the count and the fault of the cells before

@@ -16,10 +16,29 @@ use Rattle.history.specs.Table.{largestCount}
 use Rattle.history.specs.Answer.{overfull, unreadable-cell, Test, test, firstMet, passed}
 use Rattle.files.specs.Files.{roomTest, after}
 use Rattle.parsing.specs.Numbers.{front}
-use Rattle.cells.specs.Parts.{cellsFrom, linesFrom}
+use Rattle.cells.specs.Parts.{Part, cellsFrom, linesFrom}
 use Rattle.headers.specs.declared.Columns.{Columns}
 use Rattle.logs.specs.declared.Line.{Line}
-use Rattle.log_tables.specs.Logs.{unreadable, rowFrom, lineTests, rowsOf}
+use Rattle.log_tables.specs.Logs.{said, unreadable, amount, atLine, lineTests, rowsOf}
+
+-- the number in column c of some cells; x where they have no such column
+unfoldable pub inColumn : Columns → ℕ → ℕ → List Part → ℕ
+inColumn cs c x [] = x
+inColumn cs c x (p ∷ ps) = inColumn cs c (cond (eqb (p .number) c) (amount (said cs p)) x) ps
+
+-- a row so far, with the numbers of some cells; and the row that is begun with
+abbrev pub rowFrom : Columns → Row → List Part → Row
+rowFrom cs r ps =
+    record {
+      register = inColumn cs (cs .register) (r .register) ps;
+      kind = inColumn cs (cs .kind) (r .kind) ps;
+      value = inColumn cs (cs .value) (r .value) ps;
+      start = inColumn cs (cs .start) (r .start) ps;
+      finish = inColumn cs (cs .finish) (r .finish) ps;
+    }
+
+abbrev pub noRow : Row
+noRow = record { register = 0; kind = 0; value = 0; start = 0; finish = 0 }
 
 -- a row so far, with the number x of column k
 abbrev pub withCell : Columns → Row → ℕ → ℕ → Row
@@ -32,11 +51,13 @@ withCell cs r k x =
       finish = cond (eqb k (cs .finish)) x (r .finish);
     }
 
--- A line walked from a cell on: its row, its cells, its end and its first cell that cannot be read, behind those of the cells before.
+-- the first of two places, where there is one
 abbrev pub orElse : Found → Found → Found
 orElse (At n) g = At n
 orElse Nothing g = g
 
+-- A line walked from a cell on, numbered k, at an offset: its row, its cells, its end and its first cell that cannot be read, behind those of the
+-- cells before.
 unfoldable pub walked : List ℕ → Columns → Row → ℕ → ℕ → Found → Line
 walked bs cs r k at fault =
     let ps = cellsFrom bs k at in
@@ -47,12 +68,12 @@ walked bs cs r k at fault =
       fault = orElse fault (first (λ p. p .at) (unreadable cs) ps);
     }
 
--- The tests of a data line that was walked, with its row and its offset, in a text of some size and a log of w columns.
+-- The tests of the data line numbered n that was walked, at an offset, in a text of some size and a log of w columns.
 unfoldable pub walkedTests : ℕ → ℕ → ℕ → ℕ → Line → List Test
 walkedTests size n w at line =
-    test overfull (cond (leb largestCount n) (At at) Nothing)
-    ∷ test unreadable-cell (cond (not (ltb (line .end) size)) (At at) Nothing)
-    ∷ test unreadable-cell (cond (not (eqb (line .cells) w)) (At at) Nothing)
+    test overfull (atLine at (leb largestCount n))
+    ∷ test unreadable-cell (atLine at (not (ltb (line .end) size)))
+    ∷ test unreadable-cell (atLine at (not (eqb (line .cells) w)))
     ∷ test unreadable-cell (line .fault)
     ∷ []
 

@@ -17,9 +17,9 @@ ghost use Rattle.history.specs.Answer.{firstMet, passed};
 ghost use Rattle.records.specs.Records.{cells};
 ghost use Rattle.parsing.specs.Numbers.{isNumber};
 ghost use Rattle.cells.specs.Parts.{cellAt, saying};
-ghost use Rattle.log_tables.specs.Logs.{saidIn, amount, noRow, Loads};
+ghost use Rattle.log_tables.specs.Logs.{saidIn, amount, Loads};
 ghost use Rattle.log_tables.specs.Shuffled.{LoadsAlike};
-ghost use Rattle.logs.specs.Steps.{withCell, orElse, walked, walkedTests, Loaded, LinesLoad};
+ghost use Rattle.logs.specs.Steps.{noRow, withCell, orElse, walked, walkedTests, Loaded, LinesLoad};
 
 // A line that was walked: its row, the count of its cells, where it ends, and its first cell that cannot be read.
 pub struct Line {
