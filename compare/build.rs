@@ -1,5 +1,5 @@
-//! Links the proved library: the folder of libhost.a, and of libcalls.a, which `differ` names itself, is target/staticlib of the repository, or
-//! VALGRIST_LIB.
+//! Links the proved library: the folder of libhost.a, and of libcalls.a, which the sources name where they declare its calls, is target/staticlib
+//! of the repository, or VALGRIST_LIB.
 use std::env;
 use std::path::PathBuf;
 

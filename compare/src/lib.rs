@@ -1,6 +1,6 @@
 //! The marking of register histories in plain Rust, to compare the proved library with: `differ` compares the calls, on random and on damaged
-//! input, `speed` the times. Written from the scope document, the requests and the paper, and where these leave something free (what the programs print beside
-//! the report, the numbers in text, one register of a file) from the pages of the repository.
+//! input, `speed` the times. Written from the scope document, the requests and the paper, and where these leave something free (what the programs
+//! print beside the report, the numbers in text, one register of a file) from the pages of the repository.
 
 pub mod answer;
 pub mod calls;

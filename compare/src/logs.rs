@@ -76,12 +76,15 @@ fn change(grid: &mut Grid, random: &mut Random) {
     }
 }
 
-/// Lines until there are about as many as can be. One in 25 times, since such logs take long.
+/// Lines until there are about as many as can be, of which the last may have a fault. One in six times, since such logs take long.
 fn pad(grid: &mut Grid, random: &mut Random) {
-    let count = 1 + MOST_ROWS - 1 + random.below(3) as usize;
-    if random.one_in(25) && grid.len() > 1 && grid.len() < count {
+    let count = MOST_ROWS + random.below(4) as usize;
+    if random.one_in(6) && grid.len() > 1 && grid.len() < count {
         let last = grid[grid.len() - 1].clone();
         grid.resize(count, last);
+        if random.one_in(2) {
+            grid[count - 1][0] = bad_cell(random);
+        }
     }
 }
 

@@ -12,7 +12,8 @@ use lib.ListN.{length, getD, drop, drop-of-length-le, length-drop, length-append
 use lib.Seq.{drop-drop, drop-cons}
 use Rattle.lists.specs.Lists.{put, keep}
 use Rattle.parsing.specs.Numbers.{front, after}
-use Rattle.cells.specs.Parts.{comma, feed, Part, part, longer, parts, cellsFrom, linesFrom, cellIn, cellAt, endOf, commaAt}
+use Rattle.cells.specs.Parts.{comma, feed, Part, part, longer, parts, linesFrom}
+use Rattle.cells.specs.Steps.{cellsFrom, cellIn, cellAt, endOf, commaAt}
 use Rattle.cells.specs.Grids.{Free}
 
 pub free-append : (c : ℕ) (p q : List ℕ) → Free c p → Free c q → Free c (p ++ q)

@@ -16,7 +16,8 @@ use Rattle.parsing.specs.declared.Number.the-variants.{Is, Nothing}
 use Rattle.parsing.specs.Numbers.{isDigit, worth, says, numberOf}
 use Rattle.parsing.proofs.Values.{held-small, says-next, says-fits, says-not, number-empty, number-some}
 use Rattle.cells.specs.declared.Cell.{Cell}
-use Rattle.cells.specs.Parts.{comma, feed, cellIn, cellAt, endOf, kindOf, same}
+use Rattle.cells.specs.Parts.{comma, feed, kindOf, same}
+use Rattle.cells.specs.Steps.{cellIn, cellAt, endOf}
 
 abbrev pub stop : ℕ → Bool
 stop b = eqb b comma || eqb b feed

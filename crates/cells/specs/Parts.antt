@@ -1,15 +1,13 @@
 -- The parts of a text between separators, and what a cell says (document 02, W-201).
 -- Assumes nothing.
-use Prim.Native.Nat.{ℕ, suc, _+_}
-use mathlib.Core.Bool.{Bool, true, false, cond, _||_}
+use Prim.Native.Nat.{ℕ, suc}
+use mathlib.Core.Bool.{Bool, true, false, cond}
 use mathlib.Core.List.{List, [], _∷_}
 use lib.Dec.{eqb, ltb}
-use lib.ListN.{length, getD, drop}
+use lib.ListN.{length, drop}
 use Rattle.lists.specs.Lists.{keep}
 use Rattle.parsing.specs.declared.Number.{Number}
 use Rattle.parsing.specs.declared.Number.the-variants.{Is, Nothing}
-use Rattle.parsing.specs.Numbers.{front}
-use Rattle.cells.specs.declared.Cell.{Cell}
 
 -- The bytes that part a text: a comma between cells, a line feed behind a line (02, W-201).
 abbrev pub comma : ℕ
@@ -38,37 +36,14 @@ unfoldable pub parts : ℕ → ℕ → ℕ → List ℕ → List Part
 parts c n at [] = part n at [] ∷ []
 parts c n at (b ∷ t) = cond (eqb b c) (part n at [] ∷ parts c (suc n) (suc at) t) (longer n at b (parts c n (suc at) t))
 
--- The cells of a line (02, W-201, "separated by commas"); and those of the line that a text has from an offset on, the first of them numbered k.
+-- The cells of a line (02, W-201, "separated by commas").
 abbrev pub cellsOf : Part → List Part
 cellsOf l = parts comma 0 (l .at) (l .bytes)
-
-unfoldable pub cellsFrom : List ℕ → ℕ → ℕ → List Part
-cellsFrom bs k at = parts comma k at (front (drop at bs))
 
 -- The lines of a text from an offset on, the first of them numbered n (02, W-201, "Every line ends in a line feed"): a line begins where a byte is
 -- left, so that a last line feed begins none.
 unfoldable pub linesFrom : List ℕ → ℕ → ℕ → List Part
 linesFrom bs n at = keep (λ l. ltb (l .at) (length bs)) (parts feed n at (drop at bs))
-
--- the bytes before the first comma or line feed
-unfoldable pub cellIn : List ℕ → List ℕ
-cellIn [] = []
-cellIn (b ∷ t) = cond (eqb b comma || eqb b feed) [] (b ∷ cellIn t)
-
--- the cell that begins at an offset, and where it ends
-abbrev pub cellAt : List ℕ → ℕ → List ℕ
-cellAt bs at = cellIn (drop at bs)
-
-abbrev pub endOf : List ℕ → ℕ → ℕ
-endOf bs at = at + length (cellAt bs at)
-
--- the cell that begins at an offset, and what it says
-abbrev pub saying : List ℕ → ℕ → Number → Cell
-saying bs at number = record { end = endOf bs at; number = number }
-
--- a comma stands at an offset
-unfoldable pub commaAt : List ℕ → ℕ → Bool
-commaAt bs at = cond (ltb at (length bs)) (eqb (getD bs at 0) comma) false
 
 -- What a kind cell says: w is a write, r a read (02, W-201, "Kind cells are w or r").
 unfoldable pub kindOf : List ℕ → Number

@@ -7,7 +7,8 @@ ghost use Prim.Native.Nat.{_+_};
 ghost use lib.Dec.{eqb, ltb};
 ghost use Rattle.parsing.specs.declared.Number.the-variants.{Is, Nothing};
 ghost use Rattle.parsing.specs.Numbers.{numberOf, says};
-ghost use Rattle.cells.specs.Parts.{comma, feed, cellAt, endOf, saying, commaAt, kindOf, same};
+ghost use Rattle.cells.specs.Parts.{comma, feed, kindOf, same};
+ghost use Rattle.cells.specs.Steps.{cellAt, endOf, saying, commaAt};
 
 // Where a cell ends, and what it says.
 pub struct Cell {
@@ -15,7 +16,7 @@ pub struct Cell {
     pub number: Number,
 }
 
-// Whether a byte ends a cell. Most bytes lie above the comma, and a line feed below it: one comparison tells these.
+// Whether a byte ends a cell. Most bytes lie above the comma and the line feed below it, so that one comparison tells most bytes apart from both.
 fn stops(byte: u8) -> bool
     ensures { λ r. ⌜ r ≡ (eqb byte comma || eqb byte feed) ⌝ }
 {

@@ -8,7 +8,7 @@ use native.Mathlib.Nat.{zero-add}
 use native.Mathlib.Omega.{arith}
 use lib.ListN.{length}
 use Rattle.parsing.specs.Numbers.{front}
-use Rattle.cells.specs.Parts.{cellsFrom, cellAt, endOf, commaAt}
+use Rattle.cells.specs.Steps.{cellsFrom, cellAt, endOf, commaAt}
 use Rattle.cells.proofs.Parting.{cells-last, cells-more, line-last, line-more, comma-within}
 use Rattle.cells.proofs.Reading.{end-within}
 use Rattle.headers.specs.declared.Named.{Named}

@@ -47,6 +47,7 @@ headerCells bs = cellsOf (part 0 0 (front bs))
 abbrev pub width : List ℕ → ℕ
 width bs = length (headerCells bs)
 
+-- what of a name is found in the header line
 abbrev pub columnOf : List ℕ → List ℕ → Column
 columnOf name bs = columnFrom name Missing (headerCells bs)
 

@@ -6,7 +6,8 @@ use mathlib.Core.List.{List}
 use lib.Dec.{ltb}
 use lib.ListN.{length, drop}
 use Rattle.parsing.specs.Numbers.{front}
-use Rattle.cells.specs.Parts.{cellsFrom, same}
+use Rattle.cells.specs.Parts.{same}
+use Rattle.cells.specs.Steps.{cellsFrom}
 use Rattle.headers.specs.declared.Named.{Named}
 use Rattle.headers.specs.declared.Header.{Header}
 use Rattle.headers.specs.Header.{registerName, kindName, valueName, startName, finishName, more, width, namedFrom, placesOf, complete, soundHeader, columnsOf}

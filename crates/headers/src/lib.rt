@@ -30,7 +30,7 @@ pub struct Columns {
     pub finish: usize,
 }
 
-// What loading knows of the header line: where the data lines start, the count of cells, and the needed columns.
+// What loading knows of the header line: whether it is sound, where the data lines start, the count of cells, and the needed columns.
 pub struct Header {
     pub sound: bool,
     pub start: usize,
@@ -38,11 +38,11 @@ pub struct Header {
     pub columns: Columns,
 }
 
-// What of a name is found behind one cell more.
-fn found_at(found: Column, hit: bool, k: usize) -> Column
-    ensures { λ r. ⌜ r ≡ cond hit (more found k) found ⌝ }
+// What of a name is found behind one cell more, which may be equal to it.
+fn found_at(found: Column, equal: bool, k: usize) -> Column
+    ensures { λ r. ⌜ r ≡ cond equal (more found k) found ⌝ }
 {
-    if !hit {
+    if !equal {
         return found;
     }
     match found {

@@ -11,7 +11,7 @@ use Rattle.lists.specs.Lists.{first}
 use Rattle.history.specs.declared.Op.{Op}
 use Rattle.history.specs.declared.Answer.{Answer}
 
--- The codes, by 01's words in the sequence of their numbers. Behind each, what the row field holds; 0 where nothing is said.
+-- The codes, by the words of 01's table and, from 18 on, of 02, in the sequence of their numbers. Behind each, what the row field holds; 0 where nothing is said.
 pub data Code : Type 0 where
   fresh : Code
   ragged : Code
@@ -34,7 +34,7 @@ pub data Code : Type 0 where
   header-fault : Code  -- the offset 0 (02, W-201)
   unreadable-cell : Code  -- the offset of the cell, or of its line (02, W-201)
 
--- their numbers (01's table)
+-- their numbers (01's table, and 02)
 abbrev pub number : Code → ℕ
 number fresh = 0
 number ragged = 1

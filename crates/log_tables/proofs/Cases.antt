@@ -17,7 +17,7 @@ use Rattle.cells.specs.Parts.{longer, parts, linesFrom, kindOf, same}
 use Rattle.headers.specs.Header.{registerName, kindName, valueName, startName, finishName, more, columnFrom, headerCells, width, namedFrom, isOnly, place, placesOf, complete, soundHeader}
 use Rattle.cells.specs.Grids.{joined, textOf}
 use Rattle.log_tables.specs.Shuffled.{Reorders, shuffled}
-use Rattle.log_tables.specs.Logs.{saidIn, amount, dataLines, lineTests, logTests, tableOf, loadTests, loadAnswer, loadTable}
+use Rattle.log_tables.specs.Logs.{saidIn, amount, dataLines, lineTests, logTests, logTable, loadTests, loadAnswer, loadTable}
 
 -- What a call gives: its answer, and the table after it.
 pub record Gives : Type 0 where
@@ -49,9 +49,9 @@ others = 120 ∷ 44 ∷ finishName ++ 44 ∷ kindName ++ 44 ∷ 44 ∷ 120 ∷ 4
 abbrev otherLine : List ℕ
 otherLine = 63 ∷ 44 ∷ 57 ∷ 44 ∷ 114 ∷ 44 ∷ 44 ∷ 55 ∷ 44 ∷ 51 ∷ 44 ∷ 48 ∷ 50 ∷ 53 ∷ 44 ∷ 55 ∷ 10 ∷ []
 
--- the same with its columns turned round: register,value,start,x,,kind,finish,x; and 7,025,3,7,,r,9,?
-abbrev turnedCopy : List ℕ
-turnedCopy =
+-- the same with its columns reversed: register,value,start,x,,kind,finish,x; and 7,025,3,7,,r,9,?
+abbrev reversedCopy : List ℕ
+reversedCopy =
     registerName ++ 44 ∷ valueName ++ 44 ∷ startName ++ 44 ∷ 120 ∷ 44 ∷ 44 ∷ kindName ++ 44 ∷ finishName ++ 44 ∷ 120 ∷ 10
     ∷ 55 ∷ 44 ∷ 48 ∷ 50 ∷ 53 ∷ 44 ∷ 51 ∷ 44 ∷ 55 ∷ 44 ∷ 44 ∷ 114 ∷ 44 ∷ 57 ∷ 44 ∷ 63 ∷ 10
     ∷ []
@@ -63,11 +63,11 @@ cases =
     ∷ loads registerName (refusedBy 18 0) lent
     ∷ loads (registerName ++ 44 ∷ kindName ++ 44 ∷ valueName ++ 44 ∷ startName ++ 10 ∷ []) (refusedBy 18 0) lent
     ∷ loads (kindName ++ 44 ∷ header) (refusedBy 18 0) lent
-    -- no data line; one; one with other columns, and with these turned round; two, for which the table is too short
+    -- no data line; one; one with other columns, and with these reversed; two, for which the table is too short
     ∷ loads header (passed 0) lent
     ∷ loads (header ++ line) (passed 1) (7 ∷ 1 ∷ 25 ∷ 3 ∷ 9 ∷ 96 ∷ [])
     ∷ loads (others ++ otherLine) (passed 1) (7 ∷ 2 ∷ 25 ∷ 3 ∷ 9 ∷ 96 ∷ [])
-    ∷ loads turnedCopy (passed 1) (7 ∷ 2 ∷ 25 ∷ 3 ∷ 9 ∷ 96 ∷ [])
+    ∷ loads reversedCopy (passed 1) (7 ∷ 2 ∷ 25 ∷ 3 ∷ 9 ∷ 96 ∷ [])
     ∷ loads (header ++ line ++ line) (refusedBy 10 0) lent
     -- a line without a line feed, one of one empty cell, one of six cells: at the line
     ∷ loads (header ++ line ++ 55 ∷ []) (refusedBy 19 44) lent
@@ -80,36 +80,36 @@ cases =
     ∷ []
 
 pub known-logs : map (λ x. x .given) cases ≡ map (λ x. x .known) cases
-unfolding cases loadAnswer loadTable loadTests logTests lineTests tableOf dataLines amount saidIn soundHeader complete placesOf place isOnly namedFrom headerCells columnFrom more same kindOf linesFrom parts longer isNumber front numberOf says held worth isDigit firstMet flatMap put keep all first
+unfolding cases loadAnswer loadTable loadTests logTests lineTests logTable dataLines amount saidIn soundHeader complete placesOf place isOnly namedFrom headerCells columnFrom more same kindOf linesFrom parts longer isNumber front numberOf says held worth isDigit firstMet flatMap put keep all first
 known-logs = refl
 
--- Columns turned round: n - 1 .. 0 is an order of n columns.
-unfoldable pub turned : ℕ → List ℕ
-turned zero = []
-turned (suc n) = n ∷ turned n
+-- Columns reversed: n - 1 .. 0 is an order of n columns.
+unfoldable pub reversed : ℕ → List ℕ
+reversed zero = []
+reversed (suc n) = n ∷ reversed n
 
-in-turned : (n k : ℕ) → In k (turned n) → k < n
-unfolding turned
-in-turned (suc n) k (here e) = omega arith
-in-turned (suc n) k (there m) = omega (arith, in-turned n k m)
+in-reversed : (n k : ℕ) → In k (reversed n) → k < n
+unfolding reversed
+in-reversed (suc n) k (here e) = omega arith
+in-reversed (suc n) k (there m) = omega (arith, in-reversed n k m)
 
-turned-in : (n k : ℕ) → k < n → In k (turned n)
-unfolding turned
-turned-in (suc n) k h = go (eqb k n) refl (turned-in n k)
+reversed-in : (n k : ℕ) → k < n → In k (reversed n)
+unfolding reversed
+reversed-in (suc n) k h = go (eqb k n) refl (reversed-in n k)
   where
-    go : (b : Bool) → eqb k n ≡ b → (k < n → In k (turned n)) → In k (n ∷ turned n)
+    go : (b : Bool) → eqb k n ≡ b → (k < n → In k (reversed n)) → In k (n ∷ reversed n)
     go true e next = here (eqb-true k n e)
     go false e next = there (next (let d = eqb-false k n e in omega arith))
 
-turned-once : (n : ℕ) → Pairs _≢_ (turned n)
-unfolding turned
-turned-once zero = nil
-turned-once (suc n) = cons (λ (y : ℕ) (m : In y (turned n)) (e : n ≡ y). omega (arith, in-turned n y m)) (turned-once n)
+reversed-once : (n : ℕ) → Pairs _≢_ (reversed n)
+unfolding reversed
+reversed-once zero = nil
+reversed-once (suc n) = cons (λ (y : ℕ) (m : In y (reversed n)) (e : n ≡ y). omega (arith, in-reversed n y m)) (reversed-once n)
 
-pub turned-reorders : (n : ℕ) → Reorders n (turned n)
-turned-reorders n = record { once = turned-once n; each = turned-in n; only = in-turned n }
+pub reversed-reorders : (n : ℕ) → Reorders n (reversed n)
+reversed-reorders n = record { once = reversed-once n; each = reversed-in n; only = in-reversed n }
 
--- The log with other columns, and its copy with all columns turned round, which is among the cases.
-pub turned-copy : (width (others ++ otherLine) ≡ 8) × (shuffled (turned 8) (others ++ otherLine) ≡ turnedCopy)
-unfolding turned shuffled textOf joined dataLines headerCells linesFrom parts longer front keep put
-turned-copy = (refl, refl)
+-- The log with other columns, and its copy with all columns reversed, which is among the cases.
+pub reversed-copy : (width (others ++ otherLine) ≡ 8) × (shuffled (reversed 8) (others ++ otherLine) ≡ reversedCopy)
+unfolding reversed shuffled textOf joined dataLines headerCells linesFrom parts longer front keep put
+reversed-copy = (refl, refl)

@@ -11,9 +11,7 @@ use lib.ListN.{length, drop, length-append, length-map, length-drop}
 use lib.Seq.{drop-drop, drop-append-add}
 use Rattle.lists.specs.declared.Found.the-variants.{Nothing}
 use Rattle.lists.specs.Lists.{all, first}
-use Rattle.lists.proofs.Ranges.{below-in}
 use Rattle.history.specs.declared.Answer.{Answer}
-use Rattle.history.specs.declared.Row.{Row}
 use Rattle.history.specs.Table.{largestCount}
 use Rattle.history.specs.Answer.{passed}
 use Rattle.history.proofs.Refusals.{NoFault, Coded, coded-append, no-fault-append, no-fault-left, no-fault-right, code-no-fault, no-fault-answer, if-so, if-not}
@@ -28,7 +26,7 @@ use Rattle.headers.specs.declared.Column.{Column}
 use Rattle.headers.specs.declared.Column.the-variants.{Missing, Only, Repeated}
 use Rattle.headers.specs.declared.Columns.{Columns}
 use Rattle.headers.specs.Header.{registerName, kindName, valueName, startName, finishName, columnFrom, headerCells, width, columnOf, namedFrom, isOnly, place, placesOf, complete, soundHeader, columnsOf}
-use Rattle.log_tables.specs.Logs.{unreadable, rowOf, dataLines, lineTests, logTests, rowsOf, tableOf, loadTests, loadAnswer, loadTable}
+use Rattle.log_tables.specs.Logs.{unreadable, rowOf, dataLines, lineTests, logTests, rowsOf, logTable, loadTests, loadAnswer, loadTable}
 use Rattle.log_tables.specs.Grids.{NamesIn, Readable, Grid, rowsTable, GridLoads}
 use Rattle.log_tables.specs.Shuffled.{rowsIn}
 use Rattle.log_tables.proofs.Testing.{lines-coded}
@@ -215,8 +213,8 @@ module _ (names : List (List ℕ)) (rows : List (List (List ℕ))) (ps : Columns
         room = omega (arith, grid-count);
       }
 
-  pub grid-table : tableOf (textOf (names ∷ rows)) ≡ rowsTable ps rows
-  unfolding tableOf
+  pub grid-table : logTable (textOf (names ∷ rows)) ≡ rowsTable ps rows
+  unfolding logTable
   grid-table =
       rw (names-columns text names grid-header ps (g .named), grid-data)
       (grid-rows ps (length names) (names-some names ps (g .named)) 0 (length (joined names) + 1) rows (g .readable))
@@ -226,7 +224,7 @@ module _ (names : List (List ℕ)) (rows : List (List (List ℕ))) (ps : Columns
   unfolding loadTable
   grid-loads table room =
       let e = passes-loads text table (grid-passes table room) ∙ ap (λ (k : ℕ). passed k) grid-count in
-      (e, ap (λ (a : Answer). after a (tableOf text) table) e ∙ ap (λ (t : List ℕ). t ++ drop (length t) table) grid-table)
+      (e, ap (λ (a : Answer). after a (logTable text) table) e ∙ ap (λ (t : List ℕ). t ++ drop (length t) table) grid-table)
 
 -- What loads has such a grid, and its table is the grid's.
 module _ (bs table : List ℕ) (pass : Passes bs table) where
@@ -257,6 +255,6 @@ module _ (bs table : List ℕ) (pass : Passes bs table) where
         few = omega (arith, rows-count, lines-few bs (columnsOf bs) (width bs) (length bs) 0 (length (front bs) + 1) (omega arith) (omega arith) (pass .quiet));
       }
 
-  pub loads-table : tableOf bs ≡ rowsTable (columnsOf bs) (rowsIn bs)
-  unfolding tableOf
+  pub loads-table : logTable bs ≡ rowsTable (columnsOf bs) (rowsIn bs)
+  unfolding logTable
   loads-table = lines-rows (columnsOf bs) (dataLines bs)

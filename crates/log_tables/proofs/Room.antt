@@ -6,7 +6,7 @@ use mathlib.Core.Bool.{Bool, true, false}
 use mathlib.Core.List.{List, [], _∷_, _++_, flatMap}
 use native.Mathlib.Omega.{arith}
 use borrow.Author.Tests.{eqb-true, eqb-false, le-ltb}
-use lib.Dec.{eqb, ltb}
+use lib.Dec.{eqb}
 use lib.ListN.{length, take, drop}
 use Rattle.lists.proofs.Stores.{front-is, front-long, front-in}
 use Rattle.history.specs.declared.Answer.{Answer}
@@ -18,7 +18,7 @@ use Rattle.files.proofs.Meeting.{met-stop, met-on}
 use Rattle.files.proofs.Calls.{after-fresh, code-of}
 use Rattle.parsing.specs.Numbers.{front}
 use Rattle.headers.specs.Header.{width, columnsOf}
-use Rattle.log_tables.specs.Logs.{dataLines, lineTests, logTests, tableOf, logAnswer, loadTests, loadAnswer, loadTable}
+use Rattle.log_tables.specs.Logs.{dataLines, lineTests, logTests, logTable, logAnswer, loadTests, loadAnswer, loadTable}
 use Rattle.log_tables.proofs.Testing.{length-rows, lines-coded}
 use Rattle.log_tables.proofs.Rows.{lines-few}
 use Rattle.log_tables.proofs.Grids.{loads-passes, passes-loads}
@@ -56,11 +56,11 @@ module _ (bs : List ℕ) where
   loaded-as table a e h = e ∙ load-room table h
 
   -- a table of whole rows
-  table-long : length (tableOf bs) ≡ length (dataLines bs) * 5
-  unfolding tableOf
+  table-long : length (logTable bs) ≡ length (dataLines bs) * 5
+  unfolding logTable
   table-long = length-rows (columnsOf bs) (dataLines bs)
 
-  pub table-whole : length (tableOf bs) % 5 ≡ 0
+  pub table-whole : length (logTable bs) % 5 ≡ 0
   table-whole = omega (arith, table-long)
 
 -- the answer a, and what lies in the table afterwards
@@ -74,24 +74,24 @@ module _ (bs table : List ℕ) (a : Answer) (loaded : List ℕ) (o : (a ≡ load
   few : length (dataLines bs) ≤ largestCount
   few = quiet-few bs (loads-passes bs table zero .quiet)
 
-  pub loaded-few : rowCount (tableOf bs) ≤ largestCount
+  pub loaded-few : rowCount (logTable bs) ≤ largestCount
   loaded-few = omega (arith, table-long bs, few)
 
   pub loaded-small : a .rows ≤ largestCount
   loaded-small = omega (arith, loaded-rows, few)
 
-  long : length (tableOf bs) ≡ a .rows * 5
+  long : length (logTable bs) ≡ a .rows * 5
   long = omega (arith, table-long bs, loaded-rows)
 
-  is-loaded : loaded ≡ tableOf bs ++ drop (length (tableOf bs)) table
+  is-loaded : loaded ≡ logTable bs ++ drop (length (logTable bs)) table
   unfolding loadTable
-  is-loaded = o .1 ∙ after-fresh (loadAnswer bs table) (tableOf bs) table zero
+  is-loaded = o .1 ∙ after-fresh (loadAnswer bs table) (logTable bs) table zero
 
-  pub loaded-front : take (a .rows * 5) loaded ≡ tableOf bs
-  loaded-front = front-is (tableOf bs) _ loaded (a .rows * 5) long is-loaded
+  pub loaded-front : take (a .rows * 5) loaded ≡ logTable bs
+  loaded-front = front-is (logTable bs) _ loaded (a .rows * 5) long is-loaded
 
   pub loaded-long : a .rows * 5 ≡ length (take (a .rows * 5) loaded)
-  loaded-long = front-long (tableOf bs) _ loaded (a .rows * 5) long is-loaded
+  loaded-long = front-long (logTable bs) _ loaded (a .rows * 5) long is-loaded
 
   pub loaded-in : a .rows * 5 ≤ length loaded
-  loaded-in = front-in (tableOf bs) _ loaded (a .rows * 5) long is-loaded
+  loaded-in = front-in (logTable bs) _ loaded (a .rows * 5) long is-loaded

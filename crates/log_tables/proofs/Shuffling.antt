@@ -7,21 +7,19 @@ use native.Mathlib.Nat.{zero-add}
 use native.Mathlib.Omega.{arith}
 use lib.Dec.{eqb}
 use lib.ListN.{length, getD, drop, length-map}
-use Rattle.lists.specs.Lists.{upTo}
 use Rattle.lists.proofs.Maps.{in-map}
-use Rattle.lists.proofs.Ranges.{below-in}
 use Rattle.history.specs.declared.Answer.{Answer}
 use Rattle.history.specs.declared.Row.{Row}
 use Rattle.history.specs.Answer.{passed}
 use Rattle.records.specs.Records.{cells}
 use Rattle.files.specs.Files.{after}
-use Rattle.cells.specs.Parts.{comma, feed, same}
+use Rattle.cells.specs.Parts.{comma, feed}
 use Rattle.cells.specs.Grids.{bytesOf, rearranged, laid}
 use Rattle.cells.proofs.Grids.{rearranged-free}
 use Rattle.headers.specs.declared.Column.the-variants.{Missing, Only}
 use Rattle.headers.specs.declared.Columns.{Columns}
 use Rattle.headers.specs.Header.{registerName, kindName, valueName, startName, finishName, columnFrom, headerCells, columnsOf}
-use Rattle.log_tables.specs.Logs.{rowOf, tableOf, loadAnswer, loadTable}
+use Rattle.log_tables.specs.Logs.{rowOf, logTable, loadAnswer, loadTable}
 use Rattle.log_tables.specs.Grids.{NamesIn, Readable, Grid, rowsTable}
 use Rattle.log_tables.specs.Shuffled.{Reorders, rowsIn, shuffled, LoadsAlike}
 use Rattle.log_tables.proofs.Places.{placeIn, placed, Places, Holds, said-quiet, number-placed, named-placed, placed-named}
@@ -129,8 +127,8 @@ shuffled-loads bs table z o re =
     let many = length-map rows (rearranged o) in
     let copy = grid-loads (rearranged o names) (map (rearranged o) rows) (columnsIn o (columnsOf bs)) (grid-after names rows (columnsOf bs) g o re′) table (omega (arith, many, rows-count bs table p, p .room)) in
     let e = passes-loads bs table p in
-    let same-table : rowsTable (columnsIn o (columnsOf bs)) (map (rearranged o) rows) ≡ tableOf bs =
+    let same-table : rowsTable (columnsIn o (columnsOf bs)) (map (rearranged o) rows) ≡ logTable bs =
     rows-after names (columnsOf bs) (g .named) o re′ rows (g .readable) ∙ sym (loads-table bs table p) in (
       copy .0 ∙ ap (λ (k : ℕ). passed k) (many ∙ rows-count bs table p) ∙ sym e,
-      copy .1 ∙ ap (λ (t : List ℕ). t ++ drop (length t) table) same-table ∙ ap (λ (a : Answer). after a (tableOf bs) table) (sym e),
+      copy .1 ∙ ap (λ (t : List ℕ). t ++ drop (length t) table) same-table ∙ ap (λ (a : Answer). after a (logTable bs) table) (sym e),
     )

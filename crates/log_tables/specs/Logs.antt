@@ -84,8 +84,8 @@ logTests bs = test header-fault (ifSo (not (soundHeader bs))) ∷ flatMap (lineT
 abbrev pub rowsOf : Columns → List Part → List ℕ
 rowsOf cs ls = flatMap (λ l. cells (rowOf cs (bytesOf (cellsOf l)))) ls
 
-unfoldable pub tableOf : List ℕ → List ℕ
-tableOf bs = rowsOf (columnsOf bs) (dataLines bs)
+unfoldable pub logTable : List ℕ → List ℕ
+logTable bs = rowsOf (columnsOf bs) (dataLines bs)
 
 -- What loading answers where the table has room: the first of them met, or the count of data lines (02, W-201, "answered as in 01's reading").
 abbrev pub logAnswer : List ℕ → Answer
@@ -99,7 +99,7 @@ unfoldable pub loadAnswer : List ℕ → List ℕ → Answer
 loadAnswer bs table = firstMet (loadTests bs (length table)) (passed (length (dataLines bs)))
 
 unfoldable pub loadTable : List ℕ → List ℕ → List ℕ
-loadTable bs table = after (loadAnswer bs table) (tableOf bs) table
+loadTable bs table = after (loadAnswer bs table) (logTable bs) table
 
 -- A call's answer and the table after it are those of the loading.
 abbrev pub Loads : List ℕ → List ℕ → Answer → List ℕ → Type 0

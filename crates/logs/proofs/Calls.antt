@@ -23,8 +23,8 @@ use Rattle.headers.specs.declared.Columns.{Columns}
 use Rattle.headers.specs.declared.Header.{Header}
 use Rattle.headers.specs.Header.{width, soundHeader, columnsOf}
 use Rattle.headers.specs.Steps.{headerOf}
-use Rattle.log_tables.specs.Logs.{lineTests, rowsOf, dataLines, logTests, tableOf, loadTests, loadAnswer, loadTable}
-use Rattle.logs.specs.Steps.{linesAnswer, Loaded}
+use Rattle.log_tables.specs.Logs.{lineTests, rowsOf, dataLines, logTests, logTable, loadTests, loadAnswer, loadTable}
+use Rattle.logs.specs.Steps.{linesAnswer, LinesTested}
 use Rattle.log_tables.proofs.Testing.{length-rows, lines-coded}
 
 -- the data lines, from what their tests found
@@ -36,7 +36,7 @@ room-passed needed room rows z = go (ltb room needed) refl z
     go true e z = absurd (omega arith)
     go false e z = ltb-false room needed e
 
-module _ (bs : List ℕ) (cs : Columns) (w start : ℕ) (old new : List ℕ) (found : Answer) (g : Loaded bs cs w start old new found) where
+module _ (bs : List ℕ) (cs : Columns) (w start : ℕ) (old new : List ℕ) (found : Answer) (g : LinesTested bs cs w start old new found) where
   abbrev ls : List Part
   ls = linesFrom bs 0 start
 
@@ -114,18 +114,18 @@ module _ (bs table : List ℕ) where
         → r ≡ linesAnswer bs (header .columns) (header .width) (header .start) (length table)
         → out ≡ after r (rowsOf (header .columns) (linesFrom bs 0 (header .start))) table
         → (r ≡ loadAnswer bs table) × (out ≡ loadTable bs table)
-    unfolding headerOf loadTable tableOf dataLines
+    unfolding headerOf loadTable logTable dataLines
     load-sound s r out a o =
         let e : r ≡ loadAnswer bs table =
         a ∙ ap (λ (x : Header). linesAnswer bs (x .columns) (x .width) (x .start) (length table)) h ∙ sound-answer (is-sound ∙ s) in (
           e,
           o
               ∙ ap (λ (x : Header). after r (rowsOf (x .columns) (linesFrom bs 0 (x .start))) table) h
-              ∙ ap (λ (x : Answer). after x (tableOf bs) table) e,
+              ∙ ap (λ (x : Answer). after x (logTable bs) table) e,
         )
 
     pub load-fault : header .sound ≡ false → (r : Answer) → r ≡ refusedBy 18 0 → (r ≡ loadAnswer bs table) × (table ≡ loadTable bs table)
     unfolding loadTable
     load-fault s r e =
         let f = fault-answer (is-sound ∙ s) in
-        (e ∙ f, sym (after-refused (loadAnswer bs table) (tableOf bs) table (λ z. omega (arith, code-of f z))))
+        (e ∙ f, sym (after-refused (loadAnswer bs table) (logTable bs) table (λ z. omega (arith, code-of f z))))

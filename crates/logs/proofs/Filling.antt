@@ -10,7 +10,7 @@ use lib.Dec.{eqb}
 use lib.ListN.{length, getD}
 use Rattle.parsing.specs.declared.Number.the-variants.{Is}
 use Rattle.parsing.specs.Numbers.{numberOf}
-use Rattle.cells.specs.Parts.{comma, Part, parts, kindOf}
+use Rattle.cells.specs.Parts.{comma, parts, kindOf}
 use Rattle.cells.specs.Grids.{bytesOf, laid}
 use Rattle.cells.proofs.Grids.{parts-laid}
 use Rattle.headers.specs.declared.Columns.{Columns}

@@ -19,7 +19,8 @@ use Rattle.files.proofs.Meeting.{met-kept}
 use Rattle.text.proofs.Putting.{Putting, put-none, put-more, put-all}
 use Rattle.parsing.specs.Numbers.{front}
 use Rattle.parsing.proofs.Lines.{front-length}
-use Rattle.cells.specs.Parts.{Part, part, cellsOf, cellsFrom, linesFrom}
+use Rattle.cells.specs.Parts.{Part, part, cellsOf, linesFrom}
+use Rattle.cells.specs.Steps.{cellsFrom}
 use Rattle.cells.specs.Grids.{bytesOf}
 use Rattle.cells.proofs.Parting.{lines-none, lines-more}
 use Rattle.headers.specs.declared.Columns.{Columns}
@@ -27,7 +28,7 @@ use Rattle.logs.specs.declared.Line.{Line}
 use Rattle.log_tables.specs.Logs.{rowOf, lineTests, rowsOf}
 use Rattle.log_tables.proofs.Testing.{length-rows, line-coded, line-few}
 use Rattle.logs.proofs.Filling.{row-filled}
-use Rattle.logs.specs.Steps.{noRow, walked, walkedTests, foundIn, Loaded}
+use Rattle.logs.specs.Steps.{noRow, walked, walkedTests, foundIn, LinesTested}
 
 module _ (bs : List ℕ) (cs : Columns) (w : ℕ) where
   -- the tests of a line that was walked are the line's
@@ -50,7 +51,7 @@ module _ (bs : List ℕ) (cs : Columns) (w : ℕ) where
         }
 
     module _ (n at : ℕ) (table : List ℕ) (g : Loading n at table) where
-      pub load-end : 5120 ≤ length old → length bs ≤ at → (r : Answer) → r ≡ passed n → Loaded bs cs w start old table r
+      pub load-end : 5120 ≤ length old → length bs ≤ at → (r : Answer) → r ≡ passed n → LinesTested bs cs w start old table r
       unfolding flatMap firstMet
       load-end o h r e =
           let none = lines-none bs n at h in
@@ -104,7 +105,7 @@ module _ (bs : List ℕ) (cs : Columns) (w : ℕ) where
         coded : answer .code ≡ firstMet (lineTests bs cs w here) (passed 0) .code
         coded = ap (λ (a : Answer). a .code) told
 
-        pub load-hit : 5120 ≤ length old → answer .code ≢ 0 → Loaded bs cs w start old table answer
+        pub load-hit : 5120 ≤ length old → answer .code ≢ 0 → LinesTested bs cs w start old table answer
         load-hit o c =
             record {
               room = omega (arith, g .put .long);

@@ -13,7 +13,8 @@ use Rattle.history.specs.declared.Row.{Row}
 use Rattle.parsing.specs.declared.Number.{Number}
 use Rattle.parsing.specs.Numbers.{isNumber}
 use Rattle.cells.specs.declared.Cell.{Cell}
-use Rattle.cells.specs.Parts.{Part, cellAt, endOf, saying, commaAt}
+use Rattle.cells.specs.Parts.{Part}
+use Rattle.cells.specs.Steps.{cellAt, endOf, saying, commaAt}
 use Rattle.cells.proofs.Parting.{cells-last, cells-more, line-last, line-more, comma-within}
 use Rattle.headers.specs.declared.Columns.{Columns}
 use Rattle.logs.specs.declared.Line.{Line}
@@ -22,7 +23,7 @@ use Rattle.logs.specs.Steps.{inColumn, rowFrom, noRow, withCell, orElse,
 
 -- a line walked
 line-is : (r s : Row) (m n e f : ℕ) (a b : Found) → r ≡ s → m ≡ n → e ≡ f → a ≡ b
-    → _≡_ {A = Line} (record { row = r; cells = m; end = e; fault = a }) (record { row = s; cells = n; end = f; fault = b })
+    → _≡_ {A = Line} (record { row = r; count = m; end = e; fault = a }) (record { row = s; count = n; end = f; fault = b })
 line-is r s m n e f a b p q u v = cc
 
 -- what cannot be read, in two steps
@@ -81,7 +82,7 @@ module _ (bs : List ℕ) (cs : Columns) where
               (ap (λ (ps : List Part). orElse f (first (λ p. p .at) (unreadable cs) ps)) c ∙ or-step f (not (isNumber (saidIn cs k (cellAt bs at)))) at _));
         }
 
-    pub walk-end : commaAt bs (cell .end) ≡ false → record { row = row; cells = k + 1; end = cell .end; fault = fault } ≡ walked bs cs noRow 0 start Nothing
+    pub walk-end : commaAt bs (cell .end) ≡ false → record { row = row; count = k + 1; end = cell .end; fault = fault } ≡ walked bs cs noRow 0 start Nothing
     unfolding walked inColumn first
     walk-end is =
         let c = cells-last bs at (cell .end) ends is k in

@@ -16,7 +16,8 @@ use Rattle.history.specs.Table.{largestCount}
 use Rattle.history.specs.Answer.{overfull, unreadable-cell, Test, test, firstMet, passed}
 use Rattle.files.specs.Files.{roomTest, after}
 use Rattle.parsing.specs.Numbers.{front}
-use Rattle.cells.specs.Parts.{Part, cellsFrom, linesFrom}
+use Rattle.cells.specs.Parts.{Part, linesFrom}
+use Rattle.cells.specs.Steps.{cellsFrom}
 use Rattle.headers.specs.declared.Columns.{Columns}
 use Rattle.logs.specs.declared.Line.{Line}
 use Rattle.log_tables.specs.Logs.{said, unreadable, amount, atLine, lineTests, rowsOf}
@@ -63,7 +64,7 @@ walked bs cs r k at fault =
     let ps = cellsFrom bs k at in
     record {
       row = rowFrom cs r ps;
-      cells = k + length ps;
+      count = k + length ps;
       end = at + length (front (drop at bs));
       fault = orElse fault (first (λ p. p .at) (unreadable cs) ps);
     }
@@ -73,7 +74,7 @@ unfoldable pub walkedTests : ℕ → ℕ → ℕ → ℕ → Line → List Test
 walkedTests size n w at line =
     test overfull (atLine at (leb largestCount n))
     ∷ test unreadable-cell (atLine at (not (ltb (line .end) size)))
-    ∷ test unreadable-cell (atLine at (not (eqb (line .cells) w)))
+    ∷ test unreadable-cell (atLine at (not (eqb (line .count) w)))
     ∷ test unreadable-cell (line .fault)
     ∷ []
 
@@ -86,13 +87,13 @@ linesAnswer bs cs w start room =
     let ls = linesFrom bs 0 start in firstMet (flatMap (lineTests bs cs w) ls ++ (roomTest (length ls * 5) room ∷ [])) (passed (length ls))
 
 -- What the tests of the data lines leave: their answer r and, where it refuses nothing, their rows at the front of a table.
-pub record Loaded (bs : List ℕ) (cs : Columns) (w start : ℕ) (old new : List ℕ) (r : Answer) : Type 0 where
+pub record LinesTested (bs : List ℕ) (cs : Columns) (w start : ℕ) (old new : List ℕ) (r : Answer) : Type 0 where
   pub room : 5120 ≤ length new
   pub answer : r ≡ foundIn bs cs w start
   pub few : r .code ≡ 0 → length (linesFrom bs 0 start) ≤ largestCount
   pub stored : r .code ≡ 0 → new ≡ sets old 0 (rowsOf cs (linesFrom bs 0 start))
 
 -- What loading the data lines leaves: their answer, and a table with their rows at its front where it refuses nothing.
-abbrev pub LinesLoad : List ℕ → Columns → ℕ → ℕ → List ℕ → Answer → List ℕ → Type 0
-LinesLoad bs cs w start table answer left =
+abbrev pub LinesLoaded : List ℕ → Columns → ℕ → ℕ → List ℕ → Answer → List ℕ → Type 0
+LinesLoaded bs cs w start table answer left =
     (answer ≡ linesAnswer bs cs w start (length table)) × (left ≡ after answer (rowsOf cs (linesFrom bs 0 start)) table)

@@ -16,15 +16,15 @@ ghost use Rattle.lists.specs.declared.Found.the-variants.{At, Nothing};
 ghost use Rattle.history.specs.Answer.{firstMet, passed};
 ghost use Rattle.records.specs.Records.{cells};
 ghost use Rattle.parsing.specs.Numbers.{isNumber};
-ghost use Rattle.cells.specs.Parts.{cellAt, saying};
+ghost use Rattle.cells.specs.Steps.{cellAt, saying};
 ghost use Rattle.log_tables.specs.Logs.{saidIn, amount, Loads};
 ghost use Rattle.log_tables.specs.Shuffled.{LoadsAlike};
-ghost use Rattle.logs.specs.Steps.{noRow, withCell, orElse, walked, walkedTests, Loaded, LinesLoad};
+ghost use Rattle.logs.specs.Steps.{noRow, withCell, orElse, walked, walkedTests, LinesTested, LinesLoaded};
 
 // A line that was walked: its row, the count of its cells, where it ends, and its first cell that cannot be read.
 pub struct Line {
     row: Row,
-    cells: usize,
+    count: usize,
     end: usize,
     fault: Found,
 }
@@ -123,7 +123,7 @@ fn walk(bytes: &[u8], columns: Columns, at: usize) -> Line
         if !cells::comma_at(bytes, end) {
             return Line {
                 row: row,
-                cells: k,
+                count: k,
                 end: end,
                 fault: fault,
             };
@@ -132,17 +132,17 @@ fn walk(bytes: &[u8], columns: Columns, at: usize) -> Line
     }
 }
 
-// The tests of a line that was walked; code 0 where none is met.
-fn judge(size: usize, row: usize, width: usize, at: usize, line: Line) -> Answer
-    ensures { λ r. ⌜ r ≡ firstMet (walkedTests size row width at line) (passed 0) ⌝ }
+// The tests of a line that was walked, by its number among the data lines and its offset; code 0 where none is met.
+fn judge(size: usize, number: usize, width: usize, at: usize, line: Line) -> Answer
+    ensures { λ r. ⌜ r ≡ firstMet (walkedTests size number width at line) (passed 0) ⌝ }
 {
-    if Row::LARGEST_COUNT <= row {
+    if Row::LARGEST_COUNT <= number {
         return Answer::refused(Answer::OVERFULL, at as u64);
     }
     if size <= line.end {
         return Answer::refused(Answer::UNREADABLE_CELL, at as u64);
     }
-    if line.cells != width {
+    if line.count != width {
         return Answer::refused(Answer::UNREADABLE_CELL, at as u64);
     }
     let fault = line.fault;
@@ -168,7 +168,7 @@ fn put_row(table: &mut [u64], n: usize, row: Row)
 // The tests of the data lines, in sequence, whose rows go to the front of a table of 1,024 rows.
 fn lines(bytes: &[u8], columns: Columns, width: usize, start: usize, table: &mut [u64]) -> Answer
     requires { ⌜ 5120 ≤ length (now table) ⌝ }
-    ensures { λ r. ⌜ Loaded (now (bytes .entry)) columns width start (now (table .entry)) (now (table .exit)) r ⌝ }
+    ensures { λ r. ⌜ LinesTested (now (bytes .entry)) columns width start (now (table .entry)) (now (table .exit)) r ⌝ }
 {
     let mut at = start;
     let mut n = 0;
@@ -187,7 +187,7 @@ fn lines(bytes: &[u8], columns: Columns, width: usize, start: usize, table: &mut
     Answer::passed(n as u64)
 }
 
-// Puts the first numbers of one table at the front of another.
+// Puts one table at the front of another.
 fn copy(source: &[u64], table: &mut [u64])
     requires { ⌜ length (now source) ≤ length (now table) ⌝ }
     ensures { λ _. ⌜ now (table .exit) ≡ now (source .entry) ++ drop (length (now (source .entry))) (now (table .entry)) ⌝ }
@@ -207,7 +207,7 @@ fn load_lines(
     start: usize,
     table: &mut [u64],
 ) -> Answer
-    ensures { λ r. ⌜ LinesLoad (now (bytes .entry)) columns width start (now (table .entry)) r (now (table .exit)) ⌝ }
+    ensures { λ r. ⌜ LinesLoaded (now (bytes .entry)) columns width start (now (table .entry)) r (now (table .exit)) ⌝ }
 {
     let mut rows = [0; Row::LARGEST_TABLE];
     let found = lines(bytes, columns, width, start, &mut rows);

@@ -28,7 +28,7 @@ held v = cond (ltb v (2 ^ 64)) (Is v) Nothing
 unfoldable pub says : ℕ → List ℕ → Number
 says v t = cond (all isDigit t) (held (worth v t)) Nothing
 
--- a text of one or more digits, worth at most 2 ^ 64 - 1
+-- a text of one or more digits, worth at most 2 ^ 64 - 1 (02, W-201, "one or more decimal digits")
 unfoldable pub numberOf : List ℕ → Number
 numberOf t = cond (ltb (length t) 1) Nothing (says 0 t)
 

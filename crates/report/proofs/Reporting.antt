@@ -12,7 +12,7 @@ use borrow.Author.Tests.{eqb-true, eq-eqb, ltb-false, le-ltb, not-false}
 use Rattle.lists.proofs.Stores.{front-is, front-long, front-in}
 use Rattle.history.specs.declared.Answer.{Answer}
 use Rattle.history.specs.Table.{largestCount, rowCount}
-use Rattle.history.specs.Answer.{ragged, overfull, firstMet, passed}
+use Rattle.history.specs.Answer.{firstMet, passed}
 use Rattle.history.proofs.Refusals.{NoFault, code-no-fault, if-so}
 use Rattle.methods.specs.Mark.{written}
 use Rattle.text.specs.Decimal.{linesOf}

@@ -312,8 +312,16 @@ fn log_names() {
         b"register,kind,value,start,finish\r\n",
     );
     loaded(
+        b"log with a blank behind a name",
+        b"register,kind ,value,start,finish\n",
+    );
+    loaded(
+        b"log with the beginning of a name",
+        b"register,kin,value,start,finish\n",
+    );
+    loaded(
         b"log with such names beside the needed ones",
-        b"register, kind,kind,KIND,value,start,finish,finish\r\n7,r,w,r,1,2,3,\r\n",
+        b"register, kind,kind,KIND,kinds,value,start,finish,finish\r\n7,r,w,r,r,1,2,3,\r\n",
     );
 }
 
@@ -386,6 +394,29 @@ fn log_numbers() {
         b"register,kind,value,start,finish\n7,w,100000000000000000000000,2,3\n",
     );
     loaded(
+        b"log with a larger register",
+        b"register,kind,value,start,finish\n18446744073709551616,w,1,2,3\n",
+    );
+    loaded(
+        b"log with a larger start",
+        b"register,kind,value,start,finish\n7,w,1,18446744073709551616,3\n",
+    );
+    loaded(
+        b"log with a larger finish",
+        b"register,kind,value,start,finish\n7,w,1,2,18446744073709551616\n",
+    );
+}
+
+fn log_digits() {
+    loaded(
+        b"log with a byte over 127 in a number",
+        b"register,kind,value,start,finish\n7,w,1\xff,2,3\n",
+    );
+    loaded(
+        b"log with a byte 0 in a number",
+        b"register,kind,value,start,finish\n7,w,1,2,\x003\n",
+    );
+    loaded(
         b"log with an empty number",
         b"register,kind,value,start,finish\n7,w,,2,3\n",
     );
@@ -421,6 +452,18 @@ fn log_kinds() {
         b"register,kind,value,start,finish\n7,1,1,2,3\n",
     );
     loaded(
+        b"log with a blank behind a kind",
+        b"register,kind,value,start,finish\n7,w ,1,2,3\n",
+    );
+    loaded(
+        b"log with a kind in quotes",
+        b"register,kind,value,start,finish\n7,\"w\",1,2,3\n",
+    );
+    loaded(
+        b"log with a carriage return behind a kind",
+        b"register,value,start,finish,kind\n7,1,2,3,w\r\n",
+    );
+    loaded(
         b"log with a start above its finish",
         b"register,kind,value,start,finish\n7,w,1,9,3\n",
     );
@@ -451,9 +494,9 @@ fn repeat(header: &[u8], line: &[u8], log: &mut [u8]) {
     }
 }
 
-// One line again and again; of the table the last three places are shown.
-fn many_lines(name: &[u8], log: &mut [u8], table: &mut [u64]) {
-    repeat(b"register,kind,value,start,finish\n", b"7,w,1,2,3\n", log);
+// One line again and again, loaded; of the table the last three places are shown.
+fn many_lines(name: &[u8], line: &[u8], log: &mut [u8], table: &mut [u64]) {
+    repeat(b"register,kind,value,start,finish\n", line, log);
     show(name, logs::load(log, table));
     let n = table.len();
     if 3 <= n {
@@ -461,24 +504,63 @@ fn many_lines(name: &[u8], log: &mut [u8], table: &mut [u64]) {
     }
 }
 
-fn log_limits() {
+// Tables that a log's rows fill, and one place short of it.
+fn log_tables() {
+    many_lines(
+        b"log of a header and no place",
+        b"",
+        &mut [0u8; 33],
+        &mut [],
+    );
+    many_lines(
+        b"log of two lines and ten places",
+        b"7,w,1,2,3\n",
+        &mut [0u8; 53],
+        &mut [9000u64; 10],
+    );
+    many_lines(
+        b"log of two lines and nine places",
+        b"7,w,1,2,3\n",
+        &mut [0u8; 53],
+        &mut [9000u64; 9],
+    );
     many_lines(
         b"log of 1024 lines",
+        b"7,w,1,2,3\n",
         &mut [0u8; 10273],
-        &mut [9000u64; 5121],
+        &mut [9000u64; 5120],
     );
     many_lines(
         b"log of 1024 lines and a place too few",
+        b"7,w,1,2,3\n",
         &mut [0u8; 10273],
         &mut [9000u64; 5119],
     );
+}
+
+// A 1,025th line, and what comes before it and after it.
+fn log_limits() {
     many_lines(
-        b"log with one byte more",
-        &mut [0u8; 10274],
+        b"log of 1025 lines",
+        b"7,w,1,2,3\n",
+        &mut [0u8; 10283],
+        &mut [9000u64; 5125],
+    );
+    many_lines(
+        b"log of 1025 lines and no last line feed",
+        b"7,w,1,2,3\n",
+        &mut [0u8; 10282],
         &mut [9000u64; 5119],
     );
     many_lines(
-        b"log of 1025 lines",
+        b"log of 1025 lines of which the last is cut",
+        b"7,w,1,2,3\n",
+        &mut [0u8; 10274],
+        &mut [9000u64; 5125],
+    );
+    many_lines(
+        b"log of 1025 lines of which each is bad",
+        b"7,w,1,2,x\n",
         &mut [0u8; 10283],
         &mut [9000u64; 5125],
     );
@@ -503,6 +585,8 @@ fn main() {
     log_lines();
     log_sequences();
     log_numbers();
+    log_digits();
     log_kinds();
+    log_tables();
     log_limits();
 }

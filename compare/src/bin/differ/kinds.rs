@@ -4,7 +4,7 @@ use compare::answer::Answer;
 use compare::file::{rows_of, RECORD};
 use compare::random::Random;
 use compare::table::{registers, COLUMNS};
-use compare::{calls, log, text};
+use compare::{calls, text};
 
 use crate::given::{self, Given};
 use crate::lent::{Lent, Needed};
@@ -79,7 +79,7 @@ pub const KINDS: [Kind; 20] = [
         |g, lent| select(&g.bytes, g.register, &mut lent.numbers)
     ),
     kind!(
-        "logs::load" gives &[0, 2, 10, 18, 19], from given::of_log, needs |g| Needed::Numbers(log::table_of(&g.bytes).map_or(0, |table| table.len()));
+        "logs::load" gives &[0, 2, 10, 18, 19], from given::of_log, needs |g| Needed::Numbers(data_lines(&g.bytes) * COLUMNS);
         |g, lent| load(&g.bytes, &mut lent.numbers)
     ),
     kind!(
@@ -139,4 +139,9 @@ pub const KINDS: [Kind; 20] = [
 /// The numbers of the register's rows in a file.
 fn selected(given: &Given) -> usize {
     rows_of(&given.bytes, given.register).map_or(0, |rows| rows.len() * COLUMNS)
+}
+
+/// The lines of a log behind its header, also of one that is refused, so that its table has rows.
+fn data_lines(log: &[u8]) -> usize {
+    log.iter().filter(|&&byte| byte == b'\n').count().saturating_sub(1)
 }

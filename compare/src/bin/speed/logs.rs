@@ -4,6 +4,7 @@ use std::cell::RefCell;
 use std::hint::black_box;
 use std::time::Duration;
 
+use compare::answer::Answer;
 use compare::file::{Row, MOST_ROWS};
 use compare::histories::{quorum, scramble, spread};
 use compare::random::Random;
@@ -50,16 +51,12 @@ pub fn compare(least: Duration) -> u64 {
     println!("\nlogs of 1,024 lines\n{:<24} {:>8} {:>12} {:>12} {:>8} {:>9}", "family", "bytes", "ns valgrist", "ns plain", "ratio", "MB/s");
     let mut differences = 0;
     for (name, log) in families() {
-        let table = RefCell::new([0; MOST_ROWS * COLUMNS]);
-        let load = |call: fn(&[u8], &mut [u64]) -> _| call(black_box(&log), &mut *table.borrow_mut());
-        let same = load(library::load) == load(calls::load) && {
-            let mut tables = [[1; MOST_ROWS * COLUMNS], [2; MOST_ROWS * COLUMNS]];
-            library::load(&log, &mut tables[0]);
-            calls::load(&log, &mut tables[1]);
-            tables[0] == tables[1]
-        };
-        differences += u64::from(!same);
-        let [ours, plain] = best([&|| load(library::load).code, &|| load(calls::load).code], least);
+        let mut tables = [[1; MOST_ROWS * COLUMNS], [2; MOST_ROWS * COLUMNS]];
+        let answers = [library::load(&log, &mut tables[0]), calls::load(&log, &mut tables[1])];
+        differences += u64::from(answers[0] != answers[1] || tables[0] != tables[1]);
+        let table = RefCell::new(tables[0]);
+        let load = |call: fn(&[u8], &mut [u64]) -> Answer| call(black_box(&log), &mut *table.borrow_mut()).code;
+        let [ours, plain] = best([&|| load(library::load), &|| load(calls::load)], least);
         println!("{name:<24} {:>8} {ours:>12.0} {plain:>12.0} {:>8.2} {:>9.0}", log.len(), ours / plain, log.len() as f64 * 1000.0 / ours);
     }
     differences

@@ -5,7 +5,7 @@ use native.Mathlib.Omega.{arith}
 use borrow.Author.Tests.{lt-ltb, le-ltb}
 use borrow.Author.Needs.{needs}
 use Rattle.cells.proofs.Reading.{cell-is}
-use Rattle.cells.specs.Parts.{endOf}
+use Rattle.cells.specs.Steps.{endOf}
 use Rattle.cells.proofs.broken_off.Statement.{statement}
 use Rattle.cells.proofs.broken_off.Tie as tie
 

@@ -4,7 +4,7 @@ use mathlib.Core.Path.{_≡_, refl, sym, ap, _∙_}
 use native.Mathlib.Omega.{arith}
 use lib.ListN.{length}
 use borrow.Author.Needs.{needs}
-use Rattle.cells.specs.Parts.{endOf}
+use Rattle.cells.specs.Steps.{endOf}
 use Rattle.cells.proofs.Reading.{cell-none, cell-stop, cell-on}
 use Rattle.cells.proofs.cell_end.Statement.{statement}
 use Rattle.cells.proofs.cell_end.Tie as tie

@@ -1,7 +1,7 @@
 use lib.ListN.{length}
 use borrow.Author.Tests.{lt-ltb, le-ltb}
 use borrow.Author.Needs.{needs}
-use Rattle.cells.specs.Parts.{commaAt}
+use Rattle.cells.specs.Steps.{commaAt}
 use Rattle.cells.proofs.comma_at.Statement.{statement}
 use Rattle.cells.proofs.comma_at.Tie as tie
 

@@ -2,7 +2,8 @@
 use mathlib.Core.Path.{sym, ap, _∙_}
 use native.Mathlib.Omega.{arith}
 use borrow.Author.Needs.{needs}
-use Rattle.cells.specs.Parts.{kindOf, cellAt}
+use Rattle.cells.specs.Parts.{kindOf}
+use Rattle.cells.specs.Steps.{cellAt}
 use Rattle.cells.proofs.Reading.{cell-is, kind-other, kind-one, some-within}
 use Rattle.cells.proofs.kind_cell.Statement.{statement}
 use Rattle.cells.proofs.kind_cell.Tie as tie

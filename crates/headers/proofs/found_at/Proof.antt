@@ -5,7 +5,7 @@ use Rattle.headers.proofs.found_at.Statement.{statement}
 use Rattle.headers.proofs.found_at.Tie as tie
 
 returns : tie.Need-returns
-returns c = rw (not-true (c .before .args .hit) (c .if1 .taken))
+returns c = rw (not-true (c .before .args .equal) (c .if1 .taken))
 
 enum-told : tie.Need-enum-told
 enum-told c = search needs
@@ -18,15 +18,15 @@ enum-told-3 c = search needs
 
 returns-2 : tie.Need-returns-2
 unfolding more
-returns-2 c = rw (not-false (c .before .before .before .args .hit) (c .before .before .if1 .left), c .enum-told .given .1)
+returns-2 c = rw (not-false (c .before .before .before .args .equal) (c .before .before .if1 .left), c .enum-told .given .1)
 
 returns-3 : tie.Need-returns-3
 unfolding more
-returns-3 c = rw (not-false (c .before .before .before .args .hit) (c .before .before .if1 .left), c .enum-told2 .given .1)
+returns-3 c = rw (not-false (c .before .before .before .args .equal) (c .before .before .if1 .left), c .enum-told2 .given .1)
 
 returns-4 : tie.Need-returns-4
 unfolding more
-returns-4 c = rw (not-false (c .before .before .before .args .hit) (c .before .before .if1 .left), c .enum-told3 .given .1)
+returns-4 c = rw (not-false (c .before .before .before .args .equal) (c .before .before .if1 .left), c .enum-told3 .given .1)
 
 pub found-at-spec : {M : Type 1} → statement M
 found-at-spec =

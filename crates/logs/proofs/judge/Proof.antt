@@ -13,7 +13,7 @@ refused-requires c κs = search needs
 
 returns : tie.Need-returns
 unfolding firstMet walkedTests
-returns c = let a = c .before .before .args in rw (le-leb largestCount (a .row) (omega arith)) (c .refused .ensures)
+returns c = let a = c .before .before .args in rw (le-leb largestCount (a .number) (omega arith)) (c .refused .ensures)
 
 refused-requires-2 : tie.Need-refused-requires-2
 refused-requires-2 c κs = search needs
@@ -23,7 +23,7 @@ unfolding firstMet walkedTests
 returns-2 c =
     let a = c .before .before .before .before .args in
     rw
-    (lt-leb largestCount (a .row) (omega arith), le-ltb (a .line .end) (a .size) (omega arith))
+    (lt-leb largestCount (a .number) (omega arith), le-ltb (a .line .end) (a .size) (omega arith))
     (c .refused2 .ensures)
 
 refused-requires-3 : tie.Need-refused-requires-3
@@ -34,7 +34,7 @@ unfolding firstMet walkedTests
 returns-3 c =
     let a = c .before .before .before .before .before .before .args in
     rw
-    (lt-leb largestCount (a .row) (omega arith), lt-ltb (a .line .end) (a .size) (omega arith), ne-eqb (a .line .cells) (a .width) (λ e. omega arith))
+    (lt-leb largestCount (a .number) (omega arith), lt-ltb (a .line .end) (a .size) (omega arith), ne-eqb (a .line .count) (a .width) (λ e. omega arith))
     (c .refused3 .ensures)
 
 enum-known-fault : tie.Need-enum-known-fault
@@ -54,7 +54,7 @@ unfolding firstMet walkedTests
 returns-4 c =
     let a = c .before .before .before .before .before .before .before .before .before .args in
     rw
-    (lt-leb largestCount (a .row) (omega arith), lt-ltb (a .line .end) (a .size) (omega arith), eq-eqb (a .line .cells) (a .width) (omega arith), c .before .before .fault .given .1)
+    (lt-leb largestCount (a .number) (omega arith), lt-ltb (a .line .end) (a .size) (omega arith), eq-eqb (a .line .count) (a .width) (omega arith), c .before .before .fault .given .1)
     (c .refused4 .ensures)
 
 returns-5 : tie.Need-returns-5
@@ -62,7 +62,7 @@ unfolding firstMet walkedTests
 returns-5 c =
     let a = c .before .before .before .before .before .before .before .before .args in
     rw
-    (lt-leb largestCount (a .row) (omega arith), lt-ltb (a .line .end) (a .size) (omega arith), eq-eqb (a .line .cells) (a .width) (omega arith), c .before .enum-told .given .1)
+    (lt-leb largestCount (a .number) (omega arith), lt-ltb (a .line .end) (a .size) (omega arith), eq-eqb (a .line .count) (a .width) (omega arith), c .before .enum-told .given .1)
     (c .passed .ensures)
 
 pub judge-spec : {M : Type 1} → statement M
