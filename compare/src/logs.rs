@@ -82,8 +82,9 @@ fn pad(grid: &mut Grid, random: &mut Random) {
     if random.one_in(6) && grid.len() > 1 && grid.len() < count {
         let last = grid[grid.len() - 1].clone();
         grid.resize(count, last);
-        if random.one_in(2) {
-            grid[count - 1][0] = bad_cell(random);
+        let fault = random.one_in(2).then(|| bad_cell(random));
+        if let (Some(fault), Some(cell)) = (fault, grid[count - 1].first_mut()) {
+            *cell = fault;
         }
     }
 }

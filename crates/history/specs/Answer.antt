@@ -11,7 +11,7 @@ use Rattle.lists.specs.Lists.{first}
 use Rattle.history.specs.declared.Op.{Op}
 use Rattle.history.specs.declared.Answer.{Answer}
 
--- The codes, by the words of 01's table and, from 18 on, of 02, in the sequence of their numbers. Behind each, what the row field holds; 0 where nothing is said.
+-- The codes, by the words of 01 and, from 18 on, of 02, in the sequence of their numbers. Behind each, what the row field holds; else it is 0.
 pub data Code : Type 0 where
   fresh : Code
   ragged : Code
