@@ -33,6 +33,7 @@ saidIn cs k t =
     (cond (eqb k (cs .start)) (numberOf t)
     (cond (eqb k (cs .finish)) (numberOf t) (Is 0)))))
 
+-- what a line's cell says; and that it cannot be read (02, W-201, "a cell that cannot be read")
 abbrev pub said : Columns → Part → Number
 said cs p = saidIn cs (p .number) (p .bytes)
 
