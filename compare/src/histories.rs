@@ -143,6 +143,15 @@ pub fn late_failures(count: usize, random: &mut Random) -> Vec<Row> {
     rows
 }
 
+/// All writes meet one another, and then come reads of three of them: each epoch, one for each write, fails at these reads.
+pub fn failures_at_once(count: usize, random: &mut Random) -> Vec<Row> {
+    let writes = count as u64 - 3;
+    let mut rows: Vec<Row> = (1..=writes).map(|value| row(true, value, 1, 2)).collect();
+    rows.extend([1, writes / 2, writes].map(|value| row(false, value, 3, 4)));
+    rank(&mut rows, random);
+    rows
+}
+
 /// Chunks, each of one or two forward clusters and two backward ones: the one whose write begins first must go before the forward writes, the
 /// other behind. One in three times the other has the lower low end, so that the second order listed is needed.
 pub fn chunks(count: usize, random: &mut Random) -> Vec<Row> {

@@ -1,4 +1,4 @@
-//! The proved library: the entry for a C host, and the loading of logs, which crates/calls exports.
+//! The proved library: the entry for a C host, and the marking call and the loading of logs, which crates/calls exports.
 
 use crate::answer::Answer;
 
@@ -6,8 +6,25 @@ extern "C" {
     fn valgrist_mark(bytes: *const u8, length: usize, register: u64, question: u64) -> u64;
 }
 
+#[cfg(feature = "before")]
+#[link(name = "before", kind = "static")]
+extern "C" {
+    fn before_valgrist_mark(bytes: *const u8, length: usize, register: u64, question: u64) -> u64;
+}
+
 #[link(name = "calls", kind = "static")]
 extern "C" {
+    fn calls_mark(
+        table: *const u64,
+        cells: usize,
+        register: u64,
+        question: u64,
+        allowance: u64,
+        list: *mut u64,
+        places: usize,
+        said: *mut u64,
+        four: usize,
+    );
     fn calls_load(bytes: *const u8, length: usize, table: *mut u64, cells: usize, said: *mut u64, four: usize);
 }
 
@@ -17,6 +34,13 @@ pub fn mark(bytes: &[u8], register: u64, question: u64) -> u64 {
     unsafe { valgrist_mark(bytes.as_ptr(), bytes.len(), register, question) }
 }
 
+/// The code that an earlier build of it gives.
+#[cfg(feature = "before")]
+pub fn mark_before(bytes: &[u8], register: u64, question: u64) -> u64 {
+    // SAFETY: as above.
+    unsafe { before_valgrist_mark(bytes.as_ptr(), bytes.len(), register, question) }
+}
+
 /// The answer that a call writes.
 pub fn answered(call: impl FnOnce(*mut u64, usize)) -> Answer {
     let mut said: Box<[u64]> = Box::new([u64::MAX; 4]);
@@ -24,8 +48,16 @@ pub fn answered(call: impl FnOnce(*mut u64, usize)) -> Answer {
     Answer { code: said[0], row: said[1], rows: said[2], trials: said[3] }
 }
 
+/// The mark of a table's register.
+pub fn mark_table(table: &[u64], register: u64, question: u64, allowance: u64, list: &mut [u64]) -> Answer {
+    // SAFETY: each pointer comes with the length of its slice, and the library reads and writes no place outside.
+    answered(|said, four| unsafe {
+        calls_mark(table.as_ptr(), table.len(), register, question, allowance, list.as_mut_ptr(), list.len(), said, four)
+    })
+}
+
 /// The rows of a log with named columns.
 pub fn load(log: &[u8], table: &mut [u64]) -> Answer {
-    // SAFETY: each pointer comes with the length of its slice, and the library reads and writes no place outside.
+    // SAFETY: as above.
     answered(|said, four| unsafe { calls_load(log.as_ptr(), log.len(), table.as_mut_ptr(), table.len(), said, four) })
 }

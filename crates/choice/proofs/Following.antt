@@ -18,8 +18,7 @@ use Rattle.methods.specs.Place.{later}
 use Rattle.methods.specs.Fzf.{ofFirst, mayFollow}
 use Rattle.positions.specs.Columns.{Cols, size, wr, isOwn, Sound, op, ops, Of}
 use Rattle.positions.proofs.Columns.{size-is, own-is, same-is}
-use Rattle.placing.specs.declared.State.{State}
-use Rattle.placing.specs.States.{left, Holds, Whose}
+use Rattle.placing.specs.States.{State, left, Holds, Whose}
 use Rattle.placing.specs.Scanned.{Asks, Broken, a-write, two}
 use Rattle.placing.specs.Stepped.{ending, Told}
 use Rattle.placing.proofs.Lates.{LaterThan, top-in, met-in, in-met}

@@ -21,9 +21,8 @@ use Rattle.methods.specs.Fzf.{swap, listed, viable, back, firstViable}
 use Rattle.positions.specs.Places.{Unlike}
 use Rattle.positions.specs.Columns.{Cols, op, ops}
 use Rattle.positions.proofs.Once.{pairs-once}
-use Rattle.placing.specs.declared.State.{State}
 use Rattle.placing.specs.declared.Front.{Front}
-use Rattle.placing.specs.States.{Whose}
+use Rattle.placing.specs.States.{State, Whose}
 use Rattle.choice.specs.Gives.{Gives, no-order, an-order}
 use Rattle.choice.specs.Viable.{Turns, viableBy}
 use Rattle.choice.specs.Offered.{backward, swapIf, endAt, oneAt, offer, offers, triedBy, chosenBy}

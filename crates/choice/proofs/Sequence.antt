@@ -20,11 +20,11 @@ use Rattle.methods.specs.Zones.{Decision, none, order}
 use Rattle.methods.specs.Fzf.{mayFollow, putBehind, viable}
 use Rattle.positions.specs.Columns.{Cols, size, wr, Sound, op, ops, Says}
 use Rattle.positions.proofs.Places.{below}
-use Rattle.placing.specs.declared.State.{State}
-use Rattle.placing.specs.declared.Tried.{Tried}
 use Rattle.placing.specs.declared.Front.{Front}
-use Rattle.placing.specs.States.{left, laid, Holds, Whose, Shrinks}
+use Rattle.placing.specs.States.{State, Tried, left, laid, Holds, Whose, Shrinks}
+use Rattle.placing.specs.Added.{Added}
 use Rattle.placing.specs.Stepped.{Stepped, fails, goes}
+use Rattle.placing.proofs.Adding.{added-none, added-twice, added-shrinks}
 use Rattle.choice.specs.Gives.{Gives, no-order, an-order}
 use Rattle.choice.specs.Viable.{follows, Turns, viableBy}
 use Rattle.choice.proofs.Following.{headOf, Head, asksFirst, all-follow, one-not, broken-not}
@@ -65,20 +65,16 @@ follows-is T i asked = go (eqb asked 0) refl (below i (length T))
     go false e (inr h) = rw (le-ltb i (length T) h, drop-of-length-le T h)
 
 pub record Placing (C : Cols) (T : List ℕ) (s : State) (i : ℕ) (t : State) : Type 0 where
+  pub added : Added s t
   pub within : i ≤ length T
   pub holds : Holds C t
-  pub marks : length (t .placed) ≡ length (s .placed)
-  pub cells : length (t .order) ≡ length (s .order)
   pub whose : (j : ℕ) → i ≤ j → j < length T → Whose (C .writer) t (getD T j 0)
-  pub placed : List ℕ
-  pub lays : placed ++ laid s ≡ laid t
-  pub whole : Says C (λ H. viable (ops H T) (ops H (left s)) ≡ putBehind (viable (ops H (drop i T)) (ops H (left t))) (ops H placed))
-  pub shrinks : Shrinks (size C) (s .placed) (t .placed)
+  pub whole : Says C (λ H. viable (ops H T) (ops H (left s)) ≡ putBehind (viable (ops H (drop i T)) (ops H (left t))) (ops H (added .ops)))
 
 module _ (C : Cols) (p : Sound C) (T : List ℕ) (s : State) where
   pub place-none : Holds C s → Turns (C .writer) T s → Placing C T s 0 s
-  place-none h k =
-      record { within = omega arith; holds = h; marks = refl; cells = refl; whose = λ j a b. k .whose j b; placed = []; lays = refl; whole = λ H f. sym (behind-nil _); shrinks = λ j l e. e }
+  unfolding added-none
+  place-none h k = record { added = added-none s; within = omega arith; holds = h; whose = λ j a b. k .whose j b; whole = λ H f. sym (behind-nil _) }
 
   pub place-end : (i : ℕ) (t : State) → Placing C T s i t → length T ≤ i → (r : Front) → r .failed ≡ false → r .at ≡ t .at → Gives C (viableBy T (left s)) (laid s) (t .order) r
   unfolding viable putBehind
@@ -86,9 +82,9 @@ module _ (C : Cols) (p : Sound C) (T : List ℕ) (s : State) where
       an-order e
       (record {
         high = omega (arith, g .holds .ready .high);
-        placed = g .placed;
-        lays = rw q (g .lays);
-        whole = λ H f. g .whole H f ∙ ap (λ (k : List ℕ). putBehind (viable (ops H k) (ops H (left t))) (ops H (g .placed))) (drop-of-length-le T l);
+        placed = g .added .ops;
+        lays = rw q (g .added .lays);
+        whole = λ H f. g .whole H f ∙ ap (λ (k : List ℕ). putBehind (viable (ops H k) (ops H (left t))) (ops H (g .added .ops))) (drop-of-length-le T l);
       })
 
   module _ (i : ℕ) (t : State) (l : i < length T) (g : Placing C T s i t) where
@@ -113,40 +109,42 @@ module _ (C : Cols) (p : Sound C) (T : List ℕ) (s : State) where
         go (inr h) q = absurd (both (rw (drop-of-length-le T h) at q) refl)
 
     one : (b : Bool) → Says C (λ H. all (mayFollow (op H w) (ops H L)) (later (op H w) (ops H (left t))) ≡ b →
-        viable (ops H T) (ops H (left s)) ≡ putBehind (elim b as (λ b. Decision) [ true ↦ putBehind (viable (ops H L) (rest (op H w) (ops H (left t)))) (segment (op H w) (ops H (left t))) | false ↦ none ]) (ops H (g .placed)))
+        viable (ops H T) (ops H (left s)) ≡ putBehind (elim b as (λ b. Decision) [ true ↦ putBehind (viable (ops H L) (rest (op H w) (ops H (left t)))) (segment (op H w) (ops H (left t))) | false ↦ none ]) (ops H (g .added .ops)))
     one b H f e =
         let d : drop i T ≡ w ∷ L = rw (add-one i) (drop-cons T i 0 l) in
         g .whole H f
-        ∙ ap (λ (k : List ℕ). putBehind (viable (ops H k) (ops H (left t))) (ops H (g .placed))) d
-        ∙ ap (λ (x : Decision). putBehind x (ops H (g .placed))) (viable-one (op H w) (ops H L) (ops H (left t)) b e)
+        ∙ ap (λ (k : List ℕ). putBehind (viable (ops H k) (ops H (left t))) (ops H (g .added .ops))) d
+        ∙ ap (λ (x : Decision). putBehind x (ops H (g .added .ops))) (viable-one (op H w) (ops H L) (ops H (left t)) b e)
+
+    -- nothing is set free, also where a step fails
+    pub place-shrinks : (r : Tried) → Stepped C w t r → Shrinks (size C) (s .placed) (r .state .placed)
+    place-shrinks r (fails e a b) = added-shrinks (added-twice (g .added) a) (size C)
+    place-shrinks r (goes e x) = added-shrinks (added-twice (g .added) (x .added)) (size C)
 
     pub place-fails : (r : Tried) → Stepped C w t r → r .failed ≡ true → (cells : List ℕ) (x : Front) → x .failed ≡ true → Gives C (viableBy T (left s)) (laid s) cells x
     unfolding putBehind
-    place-fails r (fails e b) q cells x z = no-order z (λ H f. one false H f (broken-not C p t (g .holds) w place-whose L head H f b))
+    place-fails r (fails e a b) q cells x z = no-order z (λ H f. one false H f (broken-not C p t (g .holds) w place-whose L head H f b))
     place-fails r (goes e y) q cells x z = absurd (both q e)
 
     pub place-clash : (r : Tried) → Stepped C w t r → r .failed ≡ false → follows T (i + 1) (r .asked) ≡ false → (cells : List ℕ) (y : Front) → y .failed ≡ true → Gives C (viableBy T (left s)) (laid s) cells y
     unfolding putBehind
-    place-clash r (fails e b) q z cells y d = absurd (both e q)
+    place-clash r (fails e a b) q z cells y d = absurd (both e q)
     place-clash r (goes e x) q z cells y d =
         no-order d (λ H f. one false H f (one-not C p t (g .holds) w place-whose L head H f (r .asked) (x .told) (sym (follows-is T (i + 1) (r .asked)) ∙ z)))
 
     pub place-on : Turns (C .writer) T s → (r : Tried) → Stepped C w t r → r .failed ≡ false → follows T (i + 1) (r .asked) ≡ true → Placing C T s (i + 1) (r .state)
-    place-on k r (fails e b) q z = absurd (both e q)
+    unfolding added-twice
+    place-on k r (fails e a b) q z = absurd (both e q)
     place-on k r (goes e x) q z =
         record {
-          shrinks = λ j l y. g .shrinks j l (x .shrinks j l y);
+          added = added-twice (g .added) (x .added);
           within = omega arith;
           holds = x .holds;
-          marks = x .marks ∙ g .marks;
-          cells = x .cells ∙ g .cells;
           whose = λ j a b. x .keeps (getD T j 0) (k .once i j (omega arith) b) (g .whose j (omega arith) b);
-          placed = x .order ++ g .placed;
-          lays = append-assoc (x .order) (g .placed) (laid s) ∙ rw (g .lays) (x .lays);
           whole = λ H f.
               one true H f (all-follow C p t (g .holds) w place-whose L head H f (r .asked) (x .told) (sym (follows-is T (i + 1) (r .asked)) ∙ z))
-              ∙ behind-twice (viable (ops H L) (rest (op H w) (ops H (left t)))) (segment (op H w) (ops H (left t))) (ops H (g .placed))
-              ∙ ap (λ (a : List Op). putBehind (viable (ops H L) (rest (op H w) (ops H (left t)))) (a ++ ops H (g .placed))) (x .segments H f)
-              ∙ ap (λ (a : List Op). putBehind (viable (ops H L) (rest (op H w) (ops H (left t)))) a) (sym (map-append (op H) (x .order) (g .placed)))
-              ∙ ap (λ (a : List Op). putBehind (viable (ops H L) a) (ops H (x .order ++ g .placed))) (x .leaves H f);
+              ∙ behind-twice (viable (ops H L) (rest (op H w) (ops H (left t)))) (segment (op H w) (ops H (left t))) (ops H (g .added .ops))
+              ∙ ap (λ (a : List Op). putBehind (viable (ops H L) (rest (op H w) (ops H (left t)))) (a ++ ops H (g .added .ops))) (x .segments H f)
+              ∙ ap (λ (a : List Op). putBehind (viable (ops H L) (rest (op H w) (ops H (left t)))) a) (sym (map-append (op H) (x .added .ops) (g .added .ops)))
+              ∙ ap (λ (a : List Op). putBehind (viable (ops H L) a) (ops H (x .added .ops ++ g .added .ops))) (x .leaves H f);
         }

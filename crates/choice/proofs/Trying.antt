@@ -8,9 +8,8 @@ use native.Mathlib.Omega.{arith}
 use lib.ListN.{length, getD}
 use Rattle.lists.proofs.Images.{getD-in}
 use Rattle.positions.specs.Columns.{Cols, size, Sound}
-use Rattle.placing.specs.declared.State.{State}
 use Rattle.placing.specs.declared.Front.{Front}
-use Rattle.placing.specs.States.{left, laid, stateOf, Holds, Shrinks}
+use Rattle.placing.specs.States.{State, left, laid, stateOf, Holds, Shrinks}
 use Rattle.freeing.specs.Marks.{Painted, Above}
 use Rattle.freeing.specs.Freed.{Shut, Within, clustersOf, Freed}
 use Rattle.freeing.proofs.Topping.{above-topped, above-low}

@@ -11,8 +11,7 @@ use Rattle.methods.specs.Zones.{Decision}
 use Rattle.methods.specs.Fzf.{viable}
 use Rattle.positions.specs.Places.{Once}
 use Rattle.positions.specs.Columns.{ops}
-use Rattle.placing.specs.declared.State.{State}
-use Rattle.placing.specs.States.{Whose}
+use Rattle.placing.specs.States.{State, Whose}
 
 -- nothing is asked for, or the write at i
 unfoldable pub follows : List ℕ → ℕ → ℕ → Bool

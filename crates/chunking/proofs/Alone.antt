@@ -46,7 +46,7 @@ module _ (writer : List ℕ) (w : ℕ) (old placed cells : List ℕ) (n : length
           ∙ ap (λ (k : List ℕ). w ∷ (k ++ drop (length cells) cells)) (upto-ext (length writer) (λ j k. same j k (mine writer w j) refl))
           ∙ ap (λ (k : List ℕ). w ∷ (upto (readOf writer w) (length writer) ++ k)) (drop-of-length-le cells {i = length cells} (omega arith))
           ∙ ap (λ (k : List ℕ). w ∷ k) (append-nil (upto (readOf writer w) (length writer))),
-      omega (arith, o .high, o .cells),
+      omega (arith, o .high, o .added .cells),
     )
       where
         same : (j : ℕ) → j < length writer → (b : Bool) → mine writer w j ≡ b → Mine writer w (stateOf placed cells (length cells) (length writer)) j ≡ readOf writer w j

@@ -193,7 +193,7 @@ fn choose(finish: &[u64], writer: &[u64], keys: &mut [u64], falling: &mut [u64])
 }
 
 // The writes by falling finish, at the front of the slice, with a place for the key of each operation; their number.
-fn falls_with(finish: &[u64], writer: &[u64], keys: &mut [u64], falling: &mut [u64]) -> usize
+pub fn falls(finish: &[u64], writer: &[u64], keys: &mut [u64], falling: &mut [u64]) -> usize
     requires { ⌜ length (now finish) ≡ length (now writer) ⌝ }
     requires { ⌜ length (now writer) ≤ largestCount ⌝ }
     requires { ⌜ length (now writer) ≤ length (now keys) ⌝ }
@@ -203,21 +203,6 @@ fn falls_with(finish: &[u64], writer: &[u64], keys: &mut [u64], falling: &mut [u
     let m = choose(finish, writer, keys, falling);
     sorting::sort_by(keys, &mut falling[..m]);
     m
-}
-
-// The writes by falling finish, at the front of the slice; their number.
-pub fn falls(finish: &[u64], writer: &[u64], falling: &mut [u64]) -> usize
-    requires { ⌜ length (now finish) ≡ length (now writer) ⌝ }
-    requires { ⌜ length (now writer) ≤ largestCount ⌝ }
-    requires { ⌜ length (now writer) ≤ length (now falling) ⌝ }
-    ensures { λ r. ⌜ (r ≡ length (fallingOf (now (finish .entry)) (now (writer .entry)))) × (take r (now (falling .exit)) ≡ fallingOf (now (finish .entry)) (now (writer .entry))) ⌝ }
-{
-    if writer.len() <= FEW {
-        let mut few = [0u64; FEW];
-        return falls_with(finish, writer, &mut few, falling);
-    }
-    let mut keys = [0u64; Row::LARGEST_COUNT];
-    falls_with(finish, writer, &mut keys, falling)
 }
 
 // The row at a position; 0 past the end.

@@ -18,8 +18,7 @@ use Rattle.positions.specs.Columns.{Cols, size, wr, Sound, op, ops, Of}
 use Rattle.positions.proofs.Places.{upto-ext, upto-stop, upto-length}
 use Rattle.positions.proofs.Ops.{keep-ops}
 use Rattle.positions.proofs.Columns.{same-is}
-use Rattle.placing.specs.declared.State.{State}
-use Rattle.placing.specs.States.{isFree, left, laid, stateOf, Holds, Whose, Shrinks}
+use Rattle.placing.specs.States.{State, isFree, left, laid, stateOf, Holds, Whose, Shrinks}
 use Rattle.zones.proofs.Zone.{all-ops}
 use Rattle.freeing.specs.Marks.{unlisted, Writes, Painted}
 use Rattle.freeing.specs.Freed.{Shut, Within, Topped, clustersOf, Freed}

@@ -6,8 +6,7 @@ use mathlib.Core.Bool.{true, false, not}
 use mathlib.Core.List.{List}
 use lib.ListN.{length, getD}
 use Rattle.positions.specs.Places.{upto}
-use Rattle.placing.specs.declared.State.{State}
-use Rattle.placing.specs.States.{isFree}
+use Rattle.placing.specs.States.{State, isFree}
 use Rattle.freeing.specs.Marks.{unlisted}
 
 -- none of n operations is to be placed

@@ -10,7 +10,7 @@ ghost use Rattle.methods.specs.Fzf.{fzf};
 ghost use Rattle.methods.specs.Mark.{untried};
 ghost use Rattle.positions.specs.Columns.{cols, Sound};
 ghost use Rattle.placing.specs.States.{isFree};
-ghost use Rattle.placing.specs.Searched.{findingOf, Searched};
+ghost use Rattle.placing.specs.Searched.{Searched};
 ghost use Rattle.zones.specs.Zones.{Zoned};
 ghost use Rattle.freeing.specs.Freed.{Shut};
 ghost use Rattle.joining.specs.Items.{Known, forths, backs, Lent};
@@ -43,7 +43,7 @@ fn sides(
     requires { ⌜ Lent (length (now start)) (now list) (now turn) (now placed) (now part) ⌝ }
     requires { ⌜ Shut (length (now writer)) (now placed) ⌝ }
     requires { ⌜ length (now start) ≤ length (now order) ⌝ }
-    ensures { λ r. ⌜ ((allowance : ℕ) → Searched (cols (now (start .entry)) (now (finish .entry)) (now (writer .entry)) (now (last .entry)) (now (prev .entry))) allowance (λ H. untried (fzf H)) (findingOf (now (order .exit)) r)) ⌝ }
+    ensures { λ r. ⌜ ((allowance : ℕ) → Searched (cols (now (start .entry)) (now (finish .entry)) (now (writer .entry)) (now (last .entry)) (now (prev .entry))) allowance (λ H. untried (fzf H)) (now (order .exit)) r) ⌝ }
 {
     chunking::mark_inner(finish, late, forwards, backwards, list, marks);
     joining::join(
@@ -95,7 +95,7 @@ fn search_with(
     requires { ⌜ Shut (length (now writer)) (now placed) ⌝ }
     requires { ⌜ length (now start) ≤ length (now part) ⌝ }
     requires { ⌜ length (now start) ≤ length (now order) ⌝ }
-    ensures { λ r. ⌜ ((allowance : ℕ) → Searched (cols (now (start .entry)) (now (finish .entry)) (now (writer .entry)) (now (last .entry)) (now (prev .entry))) allowance (λ H. untried (fzf H)) (findingOf (now (order .exit)) r)) ⌝ }
+    ensures { λ r. ⌜ ((allowance : ℕ) → Searched (cols (now (start .entry)) (now (finish .entry)) (now (writer .entry)) (now (last .entry)) (now (prev .entry))) allowance (λ H. untried (fzf H)) (now (order .exit)) r) ⌝ }
 {
     zones::lates(start, writer, last, late);
     // The part is written later, and has the room for the low ends until then.
@@ -134,7 +134,7 @@ fn search_few(
     requires { ⌜ length (now start) ≤ 32 ⌝ }
     requires { ⌜ Known (cols (now start) (now finish) (now writer) (now last) (now prev)) ⌝ }
     requires { ⌜ length (now start) ≤ length (now order) ⌝ }
-    ensures { λ r. ⌜ ((allowance : ℕ) → Searched (cols (now (start .entry)) (now (finish .entry)) (now (writer .entry)) (now (last .entry)) (now (prev .entry))) allowance (λ H. untried (fzf H)) (findingOf (now (order .exit)) r)) ⌝ }
+    ensures { λ r. ⌜ ((allowance : ℕ) → Searched (cols (now (start .entry)) (now (finish .entry)) (now (writer .entry)) (now (last .entry)) (now (prev .entry))) allowance (λ H. untried (fzf H)) (now (order .exit)) r) ⌝ }
 {
     let n = start.len();
     let mut late = [0u64; zones::FEW];
@@ -176,7 +176,7 @@ fn search_many(
     requires { ⌜ length (now start) ≤ largestCount ⌝ }
     requires { ⌜ Known (cols (now start) (now finish) (now writer) (now last) (now prev)) ⌝ }
     requires { ⌜ length (now start) ≤ length (now order) ⌝ }
-    ensures { λ r. ⌜ ((allowance : ℕ) → Searched (cols (now (start .entry)) (now (finish .entry)) (now (writer .entry)) (now (last .entry)) (now (prev .entry))) allowance (λ H. untried (fzf H)) (findingOf (now (order .exit)) r)) ⌝ }
+    ensures { λ r. ⌜ ((allowance : ℕ) → Searched (cols (now (start .entry)) (now (finish .entry)) (now (writer .entry)) (now (last .entry)) (now (prev .entry))) allowance (λ H. untried (fzf H)) (now (order .exit)) r) ⌝ }
 {
     let n = start.len();
     let mut late = [0u64; Row::LARGEST_COUNT];
@@ -218,7 +218,7 @@ pub fn search(
     requires { ⌜ length (now start) ≤ largestCount ⌝ }
     requires { ⌜ Known (cols (now start) (now finish) (now writer) (now last) (now prev)) ⌝ }
     requires { ⌜ length (now start) ≤ length (now order) ⌝ }
-    ensures { λ r. ⌜ ((allowance : ℕ) → Searched (cols (now (start .entry)) (now (finish .entry)) (now (writer .entry)) (now (last .entry)) (now (prev .entry))) allowance (λ H. untried (fzf H)) (findingOf (now (order .exit)) r)) ⌝ }
+    ensures { λ r. ⌜ ((allowance : ℕ) → Searched (cols (now (start .entry)) (now (finish .entry)) (now (writer .entry)) (now (last .entry)) (now (prev .entry))) allowance (λ H. untried (fzf H)) (now (order .exit)) r) ⌝ }
 {
     if start.len() <= zones::FEW {
         return search_few(start, finish, writer, last, prev, order);

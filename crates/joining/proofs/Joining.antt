@@ -21,6 +21,7 @@ use Rattle.methods.specs.Fzf.{Item, runs, dangles, made, items, putBefore, join
 use Rattle.methods.specs.Mark.{untried}
 use Rattle.positions.specs.Columns.{Cols, size, op, ops, Of, Says}
 use Rattle.positions.proofs.Columns.{size-is}
+use Rattle.placing.specs.declared.Search.the-variants.{Stale, Fresh}
 use Rattle.placing.specs.Searched.{Searched, is-stale, is-fresh}
 use Rattle.zones.specs.Zones.{Zoned}
 use Rattle.freeing.specs.Freed.{Shut}
@@ -145,10 +146,10 @@ module _ (C : Cols) (late : List ℕ) (g : Zoned C late) where
 
     -- nothing remains
     pub join-end : length F ≤ a → length B ≤ j → (allowance : ℕ) →
-        Searched C allowance (λ H. untried (fzf H)) (record { order = out; from = 0; to = m; trials = 0; kind = 1 })
+        Searched C allowance (λ H. untried (fzf H)) out (Fresh 0 m 0)
     unfolding fzf join putBefore merge runs keep
     join-end h l allowance =
-        is-fresh refl (omega arith) (omega arith) (omega (arith, k .few, k .long))
+        is-fresh {from = 0} {to = m} {t = 0} (omega arith) (omega arith) (omega (arith, k .few, k .long))
         (λ H o.
         let d = k .whole H o in
         let e : remaining F B a j H ≡ [] = empty H in
@@ -165,11 +166,11 @@ module _ (C : Cols) (late : List ℕ) (g : Zoned C late) where
 
     -- an item has no order
     pub join-fails : (part : List ℕ) (r : Next) → Nexts C F B a j part r → r .failed ≡ true → (o : List ℕ) → (allowance : ℕ) →
-        Searched C allowance (λ H. untried (fzf H)) (record { order = o; from = 0; to = 0; trials = 0; kind = 0 })
+        Searched C allowance (λ H. untried (fzf H)) o (Stale 0)
     unfolding fzf join putBefore
     join-fails part r (goes e x) q o allowance = absurd (both q e)
     join-fails part r (ends e x) q w allowance =
-        is-stale refl (omega arith)
+        is-stale {t = 0} (omega arith)
         (λ H o.
         let d = k .whole H o in
         let (i, l, f, n) = x H o in

@@ -8,7 +8,6 @@ use lib.ListN.{length, getD}
 use lib.Dec.{leb}
 use Rattle.methods.specs.Zones.{low}
 use Rattle.zones.specs.Zones.{zoneBy}
-use Rattle.placing.specs.declared.Search.{Search}
 use Rattle.chunking.specs.Chunks.{danglesBy}
 
 -- there is a chunk at a, and the cluster at j, if any, has no lower low end
@@ -27,7 +26,3 @@ pub record Waiting (finish late F B : List ℕ) (a j : ℕ) : Type 0 where
   pub back : j ≤ length B
   pub some : length F ≤ a → j < length B
   pub hangs : j < length B → danglesBy finish late F (getD B j 0) ≡ true
-
--- a search that ends with the first m of the lent order
-abbrev pub endedAt : ℕ → ℕ → Search
-endedAt m kind = record { from = 0; to = m; trials = 0; kind = kind }

@@ -9,12 +9,12 @@ ghost use Rattle.methods.specs.Zones.{low};
 ghost use Rattle.methods.specs.Fzf.{fzf};
 ghost use Rattle.methods.specs.Mark.{untried};
 ghost use Rattle.positions.specs.Columns.{cols, Sound};
-ghost use Rattle.placing.specs.Searched.{findingOf, Searched};
+ghost use Rattle.placing.specs.Searched.{Searched};
 ghost use Rattle.zones.specs.Zones.{zoneBy, Zoned, Inside};
 ghost use Rattle.freeing.specs.Freed.{Shut};
 ghost use Rattle.chunking.specs.Inner.{Behind, Hangs};
 ghost use Rattle.joining.specs.Items.{Known, forths, backs, Cut, Lent, Poised, Chunked, Nexts};
-ghost use Rattle.joining.specs.Next.{chunkFirst, overAt, Waiting, endedAt};
+ghost use Rattle.joining.specs.Next.{chunkFirst, overAt, Waiting};
 
 // What a chunk gives: where its order begins at the end of the part, or that it has none; and where the backward writes behind it begin.
 struct Ordered {
@@ -210,18 +210,6 @@ fn item(
     }
 }
 
-// A search that ends here: the first m of the order, or none.
-fn ended(m: usize, kind: u64) -> Search
-    ensures { λ r. ⌜ r ≡ endedAt m kind ⌝ }
-{
-    Search {
-        from: 0,
-        to: m,
-        trials: 0,
-        kind,
-    }
-}
-
 // Joins the items by low end; the backward writes inside a run are marked, and the lent slices have a place for each operation.
 pub fn join(
     start: &[u64],
@@ -250,7 +238,7 @@ pub fn join(
     requires { ⌜ Lent (length (now start)) (now list) (now turn) (now placed) (now part) ⌝ }
     requires { ⌜ Shut (length (now writer)) (now placed) ⌝ }
     requires { ⌜ length (now start) ≤ length (now order) ⌝ }
-    ensures { λ r. ⌜ ((allowance : ℕ) → Searched (cols (now (start .entry)) (now (finish .entry)) (now (writer .entry)) (now (last .entry)) (now (prev .entry))) allowance (λ H. untried (fzf H)) (findingOf (now (order .exit)) r)) ⌝ }
+    ensures { λ r. ⌜ ((allowance : ℕ) → Searched (cols (now (start .entry)) (now (finish .entry)) (now (writer .entry)) (now (last .entry)) (now (prev .entry))) allowance (λ H. untried (fzf H)) (now (order .exit)) r) ⌝ }
 {
     let mut m: usize = 0;
     let mut a: usize = 0;
@@ -259,7 +247,11 @@ pub fn join(
     loop {
         j = chunking::skip(backwards, marks, j);
         if over(forwards.len(), backwards.len(), a, j) {
-            return ended(m, Search::FRESH);
+            return Search::Fresh {
+                from: 0,
+                to: m,
+                trials: 0,
+            };
         }
         let next = item(
             start,
@@ -279,7 +271,7 @@ pub fn join(
             part,
         );
         if next.failed {
-            return ended(0, Search::STALE);
+            return Search::Stale { trials: 0 };
         }
         let at = next.at;
         m = append(&part[at..], order, m);

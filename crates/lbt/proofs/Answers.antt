@@ -15,10 +15,9 @@ use Rattle.methods.specs.Lbt.{Step, bad, done, next, step}
 use Rattle.walks.proofs.Epochs.{Bad, late-write, two-values, no-writer, Step?, is-bad, is-done, is-next, step?}
 use Rattle.positions.specs.Columns.{Cols, wr, Sound, op, ops, Of}
 use Rattle.positions.proofs.Columns.{size-is, own-is, value-same, same-value}
-use Rattle.placing.specs.States.{left, Holds, Whose}
+use Rattle.placing.specs.States.{State, left, Holds, Whose}
 use Rattle.placing.specs.Scanned.{Asking, Broken, a-write, two}
 use Rattle.placing.specs.Stepped.{ending, Told}
-use Rattle.placing.specs.declared.State.{State}
 use Rattle.placing.proofs.Lates.{LaterThan, top-in, writer-in, in-write, met-in, in-met}
 
 module _ (C : Cols) (p : Sound C) (w : ℕ) (s : State) (h : Holds C s) (k : Whose (C .writer) s w) (H : List Op) (f : Of C H) where

@@ -26,8 +26,7 @@ use Rattle.positions.proofs.Places.{below, upto-ext, upto-stop, in-upto, keep-u
 use Rattle.positions.proofs.Latest.{latest-le, latest-none, latest-at}
 use Rattle.positions.proofs.Ops.{keep-ops, in-ops, ops-in}
 use Rattle.positions.proofs.Columns.{size-is, start-is, finish-is, own-is}
-use Rattle.placing.specs.States.{isFree, left, Holds}
-use Rattle.placing.specs.declared.State.{State}
+use Rattle.placing.specs.States.{State, isFree, left, Holds}
 use Rattle.placing.proofs.Lates.{under-top, top-in}
 use Rattle.lbt.specs.Rounds.{openWrite}
 

@@ -19,11 +19,13 @@ use Rattle.methods.specs.Lbt.{Epoch, failed, placed, epoch, Round, lost, won, o
 use Rattle.positions.specs.Places.{and}
 use Rattle.positions.specs.Columns.{Cols, size, wr, endsBefore, byFinish, Sound, op, ops, Of, Says}
 use Rattle.positions.proofs.Places.{below, no-cond}
-use Rattle.placing.specs.States.{isFree, left, Holds, Whose}
-use Rattle.placing.specs.declared.State.{State}
-use Rattle.placing.specs.declared.Tried.{Tried}
+use Rattle.placing.specs.States.{State, isFree, left, Holds, Whose}
+use Rattle.placing.specs.Added.{Kept}
+use Rattle.placing.proofs.Adding.{again, kept-none, kept-left, kept-holds, kept-whose, kept-twice, kept-added}
+use Rattle.lbt.specs.declared.Trial.the-variants.{Failed, Placed}
+use Rattle.lbt.specs.declared.Turn.the-variants.{Lost, Won, Spent}
 use Rattle.lbt.specs.Epochs.{epochOf, Ran, loses, wins}
-use Rattle.lbt.specs.Rounds.{Lowest, Skipped, roundOf, tried, ended, Turned, is-lost, is-won, is-spent}
+use Rattle.lbt.specs.Rounds.{Lowest, Skipped, roundOf, tried, Turned, is-lost, is-won, is-spent}
 use Rattle.lbt.proofs.Falls.{fin, may, falls-in, falls-ordered, candidates-at}
 
 -- a round with t trials before it
@@ -87,8 +89,9 @@ Open C s low = and (isFree (s .placed)) (may C low)
 abbrev pub roundAt : Cols → List Op → State → ℕ → List ℕ → ℕ → Round
 roundAt C H s low F i = round (ops H (left s)) (ops H (keep (Open C s low) (drop i F)))
 
--- the invariant, at the write i with count trials
-pub record Turning (C : Cols) (s : State) (low base allowance : ℕ) (F : List ℕ) (i count : ℕ) : Type 0 where
+-- the invariant, at the write i with count trials: the marks and the order are those of s again
+pub record Turning (C : Cols) (s : State) (low base allowance : ℕ) (F marks cells : List ℕ) (i count : ℕ) : Type 0 where
+  pub kept : Kept s marks cells
   pub within : i ≤ length F
   pub small : count ≤ allowance
   pub tries : ℕ
@@ -102,9 +105,10 @@ module _ (C : Cols) (p : Sound C) (s : State) (h : Holds C s) (low : ℕ) (d : L
   member : {j : ℕ} → In j F → In j (byFinish C)
   member m = rw q at m
 
-  pub turn-none : (from : ℕ) → Skipped F (s .placed) from → base ≤ allowance → Turning C s low base allowance F from base
+  pub turn-none : (from : ℕ) → Skipped F (s .placed) from → base ≤ allowance → Turning C s low base allowance F (s .placed) (s .order) from base
   turn-none from k b =
       record {
+        kept = kept-none s;
         within = k .high;
         small = b;
         tries = 0;
@@ -117,90 +121,110 @@ module _ (C : Cols) (p : Sound C) (s : State) (h : Holds C s) (low : ℕ) (d : L
             ∙ sym (after-none _);
       }
 
-  lose : (i count : ℕ) (g : Turning C s low base allowance F i count) → keep X (drop i F) ≡ [] → Turned C s base allowance (ended s count 0)
-  lose i count g e =
-      is-lost (g .tries) refl (g .total) (g .small)
-      (λ H f. g .whole H f ∙ ap (λ (l : List ℕ). after (g .tries) (round (ops H (left s)) (ops H l))) e ∙ no-round (g .tries) (ops H (left s)))
+  module _ (marks cells : List ℕ) (i count : ℕ) (g : Turning C s low base allowance F marks cells i count) where
+    lose : keep X (drop i F) ≡ [] → Turned C s base allowance marks cells (Lost count)
+    lose e =
+        is-lost (g .tries) (g .kept) (g .total) (g .small)
+        (λ H f. g .whole H f ∙ ap (λ (l : List ℕ). after (g .tries) (round (ops H (left s)) (ops H l))) e ∙ no-round (g .tries) (ops H (left s)))
 
-  pub turn-end : (i count : ℕ) → Turning C s low base allowance F i count → length F ≤ i → Turned C s base allowance (ended s count 0)
-  unfolding keep
-  turn-end i count g l = lose i count g (ap (keep X) (drop-of-length-le F l))
+    pub turn-end : length F ≤ i → Turned C s base allowance marks cells (Lost count)
+    unfolding keep
+    turn-end l = lose (ap (keep X) (drop-of-length-le F l))
 
-  module _ (i count : ℕ) (g : Turning C s low base allowance F i count) (l : i < length F) where
-    abbrev w : ℕ
-    w = getD F i 0
+    module _ (l : i < length F) where
+      abbrev w : ℕ
+      w = getD F i 0
 
-    known : (w < size C) × (wr C w ≡ w)
-    known = falls-in C (member (getD-in F 0 i l))
+      known : (w < size C) × (wr C w ≡ w)
+      known = falls-in C (member (getD-in F 0 i l))
 
-    pub turn-in : w < size C
-    turn-in = known .0
+      pub turn-in : w < size C
+      turn-in = known .0
 
-    next : drop i F ≡ w ∷ drop (i + 1) F
-    next = rw (add-one i) (drop-cons F i 0 l)
+      pub turn-marked : w < length marks
+      turn-marked = omega (arith, known .0, ap length (g .kept .marks), h .ready .marks)
 
-    pub turn-skip : (getD (s .placed) w 0 ≡ 0 → ⊥) → Turning C s low base allowance F (i + 1) count
-    unfolding keep put
-    turn-skip n =
-        record {
-          within = omega arith;
-          small = g .small;
-          tries = g .tries;
-          total = g .total;
-          whole = λ H f. g .whole H f ∙ ap (λ (z : List ℕ). after (g .tries) (round (ops H (left s)) (ops H z))) out;
-        }
-      where
-        out : keep X (drop i F) ≡ keep X (drop (i + 1) F)
-        out = ap (keep X) next ∙ rw (ne-eqb (getD (s .placed) w 0) 0 n)
+      next : drop i F ≡ w ∷ drop (i + 1) F
+      next = rw (add-one i) (drop-cons F i 0 l)
 
-    module _ (z : getD (s .placed) w 0 ≡ 0) where
-      pub turn-whose : Whose (C .writer) s w
-      turn-whose = record { inside = omega (arith, known .0, p .shape .long); write = known .1; free = eq-eqb _ _ z }
+      same-mark : getD marks w 0 ≡ getD (s .placed) w 0
+      same-mark = ap (λ (q : List ℕ). getD q w 0) (g .kept .marks)
 
-      -- no candidate, and none behind it
-      pub turn-stop : fin C w < getD (C .start) (low - 1) 0 → Turned C s base allowance (ended s count 0)
-      turn-stop a = lose i count g (rw next (keep-none X _ (λ y m. none y m)))
+      pub turn-skip : (getD marks w 0 ≡ 0 → ⊥) → Turning C s low base allowance F marks cells (i + 1) count
+      unfolding keep put
+      turn-skip n =
+          record {
+            kept = g .kept;
+            within = omega arith;
+            small = g .small;
+            tries = g .tries;
+            total = g .total;
+            whole = λ H f. g .whole H f ∙ ap (λ (z : List ℕ). after (g .tries) (round (ops H (left s)) (ops H z))) out;
+          }
         where
-          early : (y : ℕ) → fin C y ≤ fin C w → X y ≡ false
-          early y b = rw (lt-leb (getD (C .start) (low - 1) 0) (fin C y) (omega arith)) (no-cond (isFree (s .placed) y))
+          out : keep X (drop i F) ≡ keep X (drop (i + 1) F)
+          out = ap (keep X) next ∙ rw (ne-eqb (getD (s .placed) w 0) 0 (λ e. n (same-mark ∙ e)))
 
-          none : (y : ℕ) → In y (w ∷ drop (i + 1) F) → X y ≡ false
-          none y (here e) = early y (rw e (omega arith))
-          none y (there m) =
-              early y (leb-true (fin C y) (fin C w) (pairs-drop {R = λ x y. endsBefore C x y ≡ true} {l = F} 0 (rw q (falls-ordered C)) i l y (rw (add-one i) at m)))
+      module _ (z : getD marks w 0 ≡ 0) where
+        open-here : isFree (s .placed) w ≡ true
+        open-here = eq-eqb _ _ (sym same-mark ∙ z)
 
-      module _ (a : getD (C .start) (low - 1) 0 ≤ fin C w) where
-        first : keep X (drop i F) ≡ w ∷ keep X (drop (i + 1) F)
-        unfolding keep put
-        first = rw next (rw (eq-eqb (getD (s .placed) w 0) 0 z, le-leb (getD (C .start) (low - 1) 0) (fin C w) a))
+        here-whose : Whose (C .writer) s w
+        here-whose = record { inside = omega (arith, known .0, p .shape .long); write = known .1; free = open-here }
 
-        pub turn-spent : count ≡ allowance → Turned C s base allowance (ended s count 2)
-        turn-spent b = is-spent refl (λ H f. omega (arith, g .total, ap tried (g .whole H f), tried-after (g .tries) (roundAt C H s low F i), more H))
+        -- what the epoch requires
+        pub turn-whose : Holds C (again (g .kept)) × Whose (C .writer) (again (g .kept)) w
+        turn-whose = (kept-holds (g .kept) C h, kept-whose (g .kept) (C .writer) w here-whose)
+
+        -- no candidate, and none behind it
+        pub turn-stop : fin C w < getD (C .start) (low - 1) 0 → Turned C s base allowance marks cells (Lost count)
+        turn-stop a = lose (rw next (keep-none X _ (λ y m. none y m)))
           where
-            more : (H : List Op) → 0 < tried (roundAt C H s low F i)
-            more H = rw first (some-tried (ops H (left s)) (op H w) (ops H (keep X (drop (i + 1) F))))
+            early : (y : ℕ) → fin C y ≤ fin C w → X y ≡ false
+            early y b = rw (lt-leb (getD (C .start) (low - 1) 0) (fin C y) (omega arith)) (no-cond (isFree (s .placed) y))
 
-        tried-one : (H : List Op) → Of C H → (e : Epoch) → epochOf H s w ≡ e
-            → roundOf H s ≡ after (g .tries) (elim e [ failed ↦ onemore (roundAt C H s low F (i + 1)) | placed r o ↦ won 1 r o ])
-        tried-one H f e b =
-            g .whole H f
-            ∙ ap (λ (k : List ℕ). after (g .tries) (round (ops H (left s)) (ops H k))) first
-            ∙ ap (after (g .tries)) (one-round (ops H (left s)) (op H w) _ e b)
+            none : (y : ℕ) → In y (w ∷ drop (i + 1) F) → X y ≡ false
+            none y (here e) = early y (rw e (omega arith))
+            none y (there m) =
+                early y (leb-true (fin C y) (fin C w) (pairs-drop {R = λ x y. endsBefore C x y ≡ true} {l = F} 0 (rw q (falls-ordered C)) i l y (rw (add-one i) at m)))
 
-        module _ (b : count ≡ allowance → ⊥) (r : Tried) where
-          pub turn-lose : Ran C w s r → r .failed ≡ true → Turning C s low base allowance F (i + 1) (count + 1)
-          turn-lose (loses e x) k =
-              record {
-                within = omega arith;
-                small = omega (arith, g .small);
-                tries = g .tries + 1;
-                total = omega (arith, g .total);
-                whole = λ H f. tried-one H f failed (x H f) ∙ after-more (g .tries) _;
-              }
-          turn-lose (wins e x) k = absurd (both k e)
+        module _ (a : getD (C .start) (low - 1) 0 ≤ fin C w) where
+          first : keep X (drop i F) ≡ w ∷ keep X (drop (i + 1) F)
+          unfolding keep put
+          first = rw next (rw (open-here, le-leb (getD (C .start) (low - 1) 0) (fin C w) a))
 
-          pub turn-win : Ran C w s r → r .failed ≡ false → Turned C s base allowance (ended (r .state) (count + 1) 1)
-          unfolding after
-          turn-win (loses e x) k = absurd (both e k)
-          turn-win (wins e x) k =
-              is-won (g .tries + 1) w refl (omega (arith, g .total)) (omega (arith, g .small)) turn-whose x (λ H f. tried-one H f _ (x .whole H f))
+          pub turn-spent : count ≡ allowance → Turned C s base allowance marks cells Spent
+          turn-spent b = is-spent (g .kept) (λ H f. omega (arith, g .total, ap tried (g .whole H f), tried-after (g .tries) (roundAt C H s low F i), more H))
+            where
+              more : (H : List Op) → 0 < tried (roundAt C H s low F i)
+              more H = rw first (some-tried (ops H (left s)) (op H w) (ops H (keep X (drop (i + 1) F))))
+
+          tried-one : (H : List Op) → Of C H → (e : Epoch) → epochOf H s w ≡ e
+              → roundOf H s ≡ after (g .tries) (elim e [ failed ↦ onemore (roundAt C H s low F (i + 1)) | placed r o ↦ won 1 r o ])
+          tried-one H f e b =
+              g .whole H f
+              ∙ ap (λ (k : List ℕ). after (g .tries) (round (ops H (left s)) (ops H k))) first
+              ∙ ap (after (g .tries)) (one-round (ops H (left s)) (op H w) _ e b)
+
+          -- the epoch of the state again is that of s
+          same-epoch : (H : List Op) → epochOf H s w ≡ epochOf H (again (g .kept)) w
+          same-epoch H = ap (λ (l : List ℕ). epoch (writeCount (ops H l)) (op H w) (ops H l)) (sym (kept-left (g .kept)))
+
+          module _ (b : count ≡ allowance → ⊥) (m c : List ℕ) (n : ℕ) (j : n ≡ count + 1) where
+            pub turn-lose : Ran C w (again (g .kept)) m c Failed → Turning C s low base allowance F m c (i + 1) n
+            turn-lose (loses k x) =
+                record {
+                  kept = kept-twice (g .kept) k;
+                  within = omega arith;
+                  small = omega (arith, g .small);
+                  tries = g .tries + 1;
+                  total = omega (arith, g .total);
+                  whole = λ H f. tried-one H f failed (same-epoch H ∙ x H f) ∙ after-more (g .tries) _;
+                }
+
+            pub turn-win : {at top : ℕ} → Ran C w (again (g .kept)) m c (Placed at top) → Turned C s base allowance m c (Won at top n)
+            unfolding after kept-added
+            turn-win (wins x) =
+                is-won (g .tries + 1) w {t = n} (omega (arith, g .total)) (omega (arith, g .small)) here-whose
+                (record { added = kept-added (g .kept) (x .added); holds = x .holds; less = x .less; whole = λ H f. same-epoch H ∙ x .whole H f })
+                (λ H f. tried-one H f _ (same-epoch H ∙ x .whole H f))

@@ -23,14 +23,16 @@ use Rattle.positions.specs.Places.{latest}
 use Rattle.positions.specs.Columns.{Cols, size, wr, isOwn, byFinish, Sound, op, ops, Of, Says}
 use Rattle.positions.proofs.Places.{upto-empty}
 use Rattle.positions.proofs.Latest.{latest-le, latest-none, latest-at}
-use Rattle.placing.specs.States.{isFree, left, laid, begun, Sized, Holds, Whose}
-use Rattle.placing.specs.Searched.{found, Searched, is-stale, is-fresh, is-spent as over}
-use Rattle.placing.specs.declared.State.{State}
+use Rattle.placing.specs.States.{State, isFree, left, laid, stateOf, Holds, Whose}
+use Rattle.placing.specs.Added.{Added}
+use Rattle.placing.specs.declared.Search.the-variants.{Stale, Fresh, Spent}
+use Rattle.placing.specs.Searched.{between, Searched, is-stale, is-fresh, is-spent as over}
 use Rattle.placing.proofs.Lates.{whose-write}
-use Rattle.placing.proofs.Begun.{begun-laid, begun-sized, begun-holds, begun-left}
+use Rattle.placing.proofs.Begun.{begun-laid, begun-holds, begun-left}
+use Rattle.placing.proofs.Adding.{added-none, added-twice, added-shrinks}
+use Rattle.lbt.specs.declared.Turn.the-variants.{Lost, Won, Spent as TurnSpent}
 use Rattle.lbt.specs.Epochs.{epochOf, Wins}
-use Rattle.lbt.specs.Rounds.{openWrite, Lowest, Skipped, roundOf, tried, ended, answered, Turned, is-lost, is-won, is-spent}
-use Rattle.lbt.specs.declared.Turn.{Turn}
+use Rattle.lbt.specs.Rounds.{openWrite, Lowest, Skipped, roundOf, tried, Turned, is-lost, is-won, is-spent}
 use Rattle.lbt.proofs.Falls.{falls-in}
 use Rattle.lbt.proofs.Latest.{latest-stop}
 
@@ -89,10 +91,10 @@ pub record Ahead (H : List Op) (s : State) (count : ℕ) : Type 0 where
   pub enough : writeCount (ops H (left s)) ≤ fuel
   pub whole : lbt H ≡ follow count (ops H (laid s)) (walk fuel (ops H (left s)))
 
--- the invariant, before a round
-pub record Walking (C : Cols) (F : List ℕ) (allowance : ℕ) (s : State) (low from count : ℕ) : Type 0 where
+-- the invariant, before a round; s₀ is the state before anything is placed
+pub record Walking (C : Cols) (F : List ℕ) (allowance : ℕ) (s₀ s : State) (low from count : ℕ) : Type 0 where
+  pub added : Added s₀ s
   pub holds : Holds C s
-  pub sized : Sized s
   pub bottom : low ≤ size C
   pub above : (j : ℕ) → low ≤ j → j < size C → openWrite (C .writer) (s .placed) j ≡ false
   pub skipped : Skipped F (s .placed) from
@@ -106,12 +108,12 @@ module _ (C : Cols) (p : Sound C) (n : size C ≤ 1024) (F : List ℕ) (q : F �
       member : {j : ℕ} → In j F → In j (byFinish C)
       member m = rw q at m
 
-  pub walk-none : (allowance : ℕ) (s : State) → s ≡ begun (size C) → Walking C F allowance s (size C) 0 0
-  walk-none allowance s e =
-      rw e
-      (record {
-        holds = begun-holds C p n;
-        sized = begun-sized (size C);
+  pub walk-none : (allowance : ℕ) (marks cells : List ℕ) → size C ≤ length marks → ((j : ℕ) → j < length marks → isFree marks j ≡ true) → size C ≤ length cells
+      → Walking C F allowance (stateOf marks cells (length cells) (size C)) (stateOf marks cells (length cells) (size C)) (size C) 0 0
+  walk-none allowance marks cells m c z =
+      record {
+        added = added-none _;
+        holds = begun-holds C p n marks cells m c z;
         bottom = omega arith;
         above = λ j a b. absurd (omega arith);
         skipped = record { high = omega arith; gone = λ i a. absurd (omega arith) };
@@ -119,12 +121,12 @@ module _ (C : Cols) (p : Sound C) (n : size C ≤ 1024) (F : List ℕ) (q : F �
         ahead =
             λ H f. record {
               fuel = writeCount H;
-              enough = rw (begun-left C p n H f) (omega arith);
-              whole = rw (begun-left C p n H f, begun-laid (size C)) (sym (follow-none _));
+              enough = rw (begun-left C p n marks cells m c z H f) (omega arith);
+              whole = rw (begun-left C p n marks cells m c z H f, begun-laid C p n marks cells m c z) (sym (follow-none _));
             };
-      })
+      }
 
-  module _ (allowance : ℕ) (s : State) (low from count : ℕ) (g : Walking C F allowance s low from count) (next : ℕ) (e : next ≡ latest (openWrite (C .writer) (s .placed)) low) where
+  module _ (allowance : ℕ) (s₀ s : State) (low from count : ℕ) (g : Walking C F allowance s₀ s low from count) (next : ℕ) (e : next ≡ latest (openWrite (C .writer) (s .placed)) low) where
     abbrev O : ℕ → Bool
     O = openWrite (C .writer) (s .placed)
 
@@ -135,8 +137,8 @@ module _ (C : Cols) (p : Sound C) (n : size C ≤ 1024) (F : List ℕ) (q : F �
     walk-low = omega (arith, latest-le O (size C), all-latest)
 
     -- no write is left, so nothing is
-    pub walk-ends : next ≡ 0 → Searched C allowance (λ H. walked (lbt H)) (answered (ended s count 1))
-    walk-ends z = is-fresh refl (g .small) (omega (arith, g .holds .ready .high, g .sized .cells)) (omega (arith, g .sized .cells)) (λ H f. says H f)
+    pub walk-ends : next ≡ 0 → (to : ℕ) → to ≡ length (s .order) → Searched C allowance (λ H. walked (lbt H)) (s .order) (Fresh (s .at) to count)
+    walk-ends z to d = is-fresh {from = s .at} {to = to} (g .small) (omega (arith, g .holds .ready .high)) (omega arith) (λ H f. says H f)
       where
         nothing : (j : ℕ) → j < s .top → isFree (s .placed) j ≡ false
         nothing j l = go (isFree (s .placed) j) refl
@@ -154,10 +156,10 @@ module _ (C : Cols) (p : Sound C) (n : size C ≤ 1024) (F : List ℕ) (q : F �
         empty : left s ≡ []
         empty = upto-empty (isFree (s .placed)) (s .top) nothing
 
-        all-laid : found (answered (ended s count 1)) ≡ laid s
-        all-laid = take-all (1024 - s .at) (laid s) (omega (arith, length-drop (s .at) (s .order), g .sized .cells))
+        all-laid : between (s .order) (s .at) to ≡ laid s
+        all-laid = take-all (to - s .at) (laid s) (omega (arith, length-drop (s .at) (s .order)))
 
-        says : (H : List Op) → Of C H → walked (lbt H) ≡ record { decision = orderOf (ops H (found (answered (ended s count 1)))); trials = count }
+        says : (H : List Op) → Of C H → walked (lbt H) ≡ record { decision = orderOf (ops H (between (s .order) (s .at) to)); trials = count }
         says H f =
             ap walked (g .ahead H f .whole ∙ ap (λ (l : List ℕ). follow count (ops H (laid s)) (walk (g .ahead H f .fuel) (ops H l))) empty ∙ follow-end count (g .ahead H f .fuel) (ops H (laid s)))
             ∙ walked-fresh count (ops H (laid s))
@@ -196,14 +198,14 @@ module _ (C : Cols) (p : Sound C) (n : size C ≤ 1024) (F : List ℕ) (q : F �
         gone t y = one (lost t) y
 
         -- a round that is won
-        onward : (t w : ℕ) (r : State) → Whose (C .writer) s w → (x : Wins C w s r) → roundOf H s ≡ won t (ops H (left r)) (ops H (x .order)) → (m : ℕ) → m ≡ count + t
+        onward : (t w : ℕ) (r : State) → Whose (C .writer) s w → (x : Wins C w s r) → roundOf H s ≡ won t (ops H (left r)) (ops H (x .added .ops)) → (m : ℕ) → m ≡ count + t
             → Ahead H r m
         onward t w r i x y m a =
             record {
               fuel = k - 1;
               enough = omega (arith, g .ahead H f .enough, less);
-              whole = one _ y ∙ follow-twice count t (ops H (laid s)) (ops H (x .order)) _
-                  ∙ ap (λ (l : List Op). follow (count + t) l (walk (k - 1) (ops H (left r)))) (sym (map-append (op H) (x .order) (laid s)) ∙ ap (ops H) (x .lays))
+              whole = one _ y ∙ follow-twice count t (ops H (laid s)) (ops H (x .added .ops)) _
+                  ∙ ap (λ (l : List Op). follow (count + t) l (walk (k - 1) (ops H (left r)))) (sym (map-append (op H) (x .added .ops) (laid s)) ∙ ap (ops H) (x .added .lays))
                   ∙ ap (λ (c : ℕ). follow c (ops H (laid r)) (walk (k - 1) (ops H (left r)))) (sym a);
             }
           where
@@ -212,41 +214,42 @@ module _ (C : Cols) (p : Sound C) (n : size C ≤ 1024) (F : List ℕ) (q : F �
 
             less : writeCount (ops H (left r)) < writeCount (ops H (left s))
             less =
-                won-fewer (op H w) (ops H (left s)) (ops H (left r)) (ops H (x .order)) write (epochOf H s w) (x .whole H f)
+                won-fewer (op H w) (ops H (left s)) (ops H (left r)) (ops H (x .added .ops)) write (epochOf H s w) (x .whole H f)
                 (epoch? (writeCount (ops H (left s))) (op H w) (ops H (left s)) write (omega arith))
 
-      pub walk-stops : (r : Turn) → Turned C s count allowance r → (r .kind ≡ 1 → ⊥) → Searched C allowance (λ H. walked (lbt H)) (answered r)
-      walk-stops r (is-lost t k a b y) m =
-          is-stale k b (λ H f. ap walked (gone H f t (y H f)) ∙ walked-stale (count + t) ∙ ap (λ (c : ℕ). record { decision = none; trials = c }) (sym a))
-      walk-stops r (is-won t w k a b i x y) m = absurd (m k)
-      walk-stops r (is-spent k b) m = over k (λ H f. omega (arith, b H f, total H f, round-trials (g .ahead H f .fuel - 1) (roundOf H s)))
+      module _ {marks cells : List ℕ} where
+        pub walk-stale : {t : ℕ} → Turned C s count allowance marks cells (Lost t) → (places : List ℕ) → Searched C allowance (λ H. walked (lbt H)) places (Stale t)
+        walk-stale (is-lost n k a b y) places =
+            is-stale b (λ H f. ap walked (gone H f n (y H f)) ∙ walked-stale (count + n) ∙ ap (λ (c : ℕ). record { decision = none; trials = c }) (sym a))
 
-      pub walk-on : (r : Turn) → Turned C s count allowance r → r .kind ≡ 1 → (i : ℕ) → Skipped F (s .placed) i → (r .state .at < s .at) × Walking C F allowance (r .state) next i (r .trials)
-      walk-on r (is-lost t k a b y) m j v = absurd (omega arith)
-      walk-on r (is-spent k b) m j v = absurd (omega arith)
-      walk-on r (is-won t w k a b i x y) m u v = (
-        x .less,
-        record {
-          holds = x .holds;
-          sized = record { marks = x .marks ∙ g .sized .marks; cells = x .cells ∙ g .sized .cells };
-          bottom = walk-low;
-          above = λ j l m. closes j m (latest-none O (size C) j (omega (arith, all-latest)) m);
-          skipped = record { high = v .high; gone = λ i a. shuts (getD F i 0) (falls-under i (omega (arith, v .high))) (v .gone i a) };
-          small = b;
-          ahead = λ H f. onward H f t w (r .state) i x (y H f) (r .trials) a;
-        },
-      )
-        where
-          shuts : (j : ℕ) → j < size C → isFree (s .placed) j ≡ false → isFree (r .state .placed) j ≡ false
-          shuts j m c = shut (isFree (r .state .placed) j) refl
-            where
-              shut : (b : Bool) → isFree (r .state .placed) j ≡ b → b ≡ false
-              shut false y = refl
-              shut true y = absurd (both (x .shrinks j m y) c)
+        pub walk-spent : Turned C s count allowance marks cells TurnSpent → (places : List ℕ) → Searched C allowance (λ H. walked (lbt H)) places Spent
+        walk-spent (is-spent k b) places = over (λ H f. omega (arith, b H f, total H f, round-trials (g .ahead H f .fuel - 1) (roundOf H s)))
 
-          closes : (j : ℕ) → j < size C → O j ≡ false → openWrite (C .writer) (r .state .placed) j ≡ false
-          closes j m c = shut (isFree (r .state .placed) j) refl
-            where
-              shut : (b : Bool) → isFree (r .state .placed) j ≡ b → cond b (isOwn (C .writer) j) false ≡ false
-              shut false y = refl
-              shut true y = rw (x .shrinks j m y) at c
+        pub walk-on : {at top t : ℕ} → Turned C s count allowance marks cells (Won at top t) → (i : ℕ) → Skipped F (s .placed) i
+            → (at < s .at) × Walking C F allowance s₀ (stateOf marks cells at top) next i t
+        walk-on {at} {top} {t} (is-won n w a b i x y) u v = (
+          x .less,
+          record {
+            added = added-twice (g .added) (x .added);
+            holds = x .holds;
+            bottom = walk-low;
+            above = λ j l m. closes j m (latest-none O (size C) j (omega (arith, all-latest)) m);
+            skipped = record { high = v .high; gone = λ i a. shuts (getD F i 0) (falls-under i (omega (arith, v .high))) (v .gone i a) };
+            small = b;
+            ahead = λ H f. onward H f n w (stateOf marks cells at top) i x (y H f) t a;
+          },
+        )
+          where
+            shuts : (j : ℕ) → j < size C → isFree (s .placed) j ≡ false → isFree marks j ≡ false
+            shuts j m c = shut (isFree marks j) refl
+              where
+                shut : (b : Bool) → isFree marks j ≡ b → b ≡ false
+                shut false y = refl
+                shut true y = absurd (both (added-shrinks (x .added) (size C) j m y) c)
+
+            closes : (j : ℕ) → j < size C → O j ≡ false → openWrite (C .writer) marks j ≡ false
+            closes j m c = shut (isFree marks j) refl
+              where
+                shut : (b : Bool) → isFree marks j ≡ b → cond b (isOwn (C .writer) j) false ≡ false
+                shut false y = refl
+                shut true y = rw (added-shrinks (x .added) (size C) j m y) at c

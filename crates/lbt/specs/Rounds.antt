@@ -5,17 +5,15 @@ use mathlib.Core.Path.{_≡_}
 use mathlib.Core.Bool.{Bool, false}
 use mathlib.Core.List.{List}
 use lib.ListN.{length, getD}
-use Rattle.history.specs.Table.{largestCount}
 use Rattle.history.specs.declared.Op.{Op}
 use Rattle.methods.specs.Lbt.{candidates, Round, lost, won, round}
 use Rattle.positions.specs.Places.{and, latest}
 use Rattle.positions.specs.Columns.{Cols, size, isOwn, ops, Says}
-use Rattle.placing.specs.States.{isFree, left, Whose}
-use Rattle.placing.specs.declared.State.{State}
-use Rattle.placing.specs.Searched.{Finding}
+use Rattle.placing.specs.States.{State, isFree, left, stateOf, Whose}
+use Rattle.placing.specs.Added.{Kept}
 use Rattle.lbt.specs.Epochs.{Wins}
 use Rattle.lbt.specs.declared.Turn.{Turn}
-use Rattle.lbt.specs.declared.Walked.{Walked}
+use Rattle.lbt.specs.declared.Turn.the-variants.{Lost, Won, Spent}
 
 -- a write that is not placed
 abbrev pub openWrite : List ℕ → List ℕ → ℕ → Bool
@@ -40,20 +38,9 @@ unfoldable pub tried : Round → ℕ
 tried (lost t) = t
 tried (won t l o) = t
 
--- how a round ends, and what the walk answers that ends with it
-abbrev pub ended : State → ℕ → ℕ → Turn
-ended s trials kind = record { state = s; trials = trials; kind = kind }
-
-abbrev pub answered : Turn → Finding
-answered r = record { order = r .state .order; from = r .state .at; to = largestCount; trials = r .trials; kind = r .kind }
-
--- the answer as a finding in the walk's own places
-abbrev pub findingIn : Walked → Finding
-findingIn r = record { order = r .order; from = r .from; to = r .to; trials = r .trials; kind = r .kind }
-
--- THE CONTRACT of a round; s is the state and base the trials before it
-pub data Turned (C : Cols) (s : State) (base allowance : ℕ) (r : Turn) : Type 0 where
-  is-lost : (t : ℕ) → r .kind ≡ 0 → r .trials ≡ base + t → r .trials ≤ allowance → Says C (λ H. roundOf H s ≡ lost t) → Turned C s base allowance r
-  is-won : (t w : ℕ) → r .kind ≡ 1 → r .trials ≡ base + t → r .trials ≤ allowance → Whose (C .writer) s w → (x : Wins C w s (r .state)) →
-      Says C (λ H. roundOf H s ≡ won t (ops H (left (r .state))) (ops H (x .order))) → Turned C s base allowance r
-  is-spent : r .kind ≡ 2 → Says C (λ H. allowance < base + tried (roundOf H s)) → Turned C s base allowance r
+-- THE CONTRACT of a round, of which n trials are; s is the state and base the trials before it, marks and cells what is lent after it
+pub data Turned (C : Cols) (s : State) (base allowance : ℕ) (marks cells : List ℕ) : Turn → Type 0 where
+  is-lost : (n : ℕ) {t : ℕ} → Kept s marks cells → t ≡ base + n → t ≤ allowance → Says C (λ H. roundOf H s ≡ lost n) → Turned C s base allowance marks cells (Lost t)
+  is-won : (n w : ℕ) {at top t : ℕ} → t ≡ base + n → t ≤ allowance → Whose (C .writer) s w → (x : Wins C w s (stateOf marks cells at top)) →
+      Says C (λ H. roundOf H s ≡ won n (ops H (left (stateOf marks cells at top))) (ops H (x .added .ops))) → Turned C s base allowance marks cells (Won at top t)
+  is-spent : Kept s marks cells → Says C (λ H. allowance < base + tried (roundOf H s)) → Turned C s base allowance marks cells Spent

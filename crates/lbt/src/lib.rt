@@ -1,9 +1,7 @@
 // LBT over the columns of a prepared history: epochs of placing steps, rounds over the candidates, and the walk that counts the trials.
-use history::Row;
 use placing::Search;
-use placing::State;
-use placing::Tried;
 ghost use mathlib.Core.Path.{_≡_};
+ghost use mathlib.Core.Bool.{true};
 ghost use Prim.Native.Nat.{ℕ, _≤_, _<_};
 ghost use lib.ListN.{length, getD};
 ghost use Rattle.history.specs.Table.{largestCount};
@@ -11,91 +9,84 @@ ghost use Rattle.methods.specs.Mark.{walked};
 ghost use Rattle.methods.specs.Lbt.{lbt};
 ghost use Rattle.positions.specs.Places.{latest};
 ghost use Rattle.positions.specs.Columns.{cols, byFinish, Sound};
-ghost use Rattle.placing.specs.States.{Sized, Holds, Whose};
+ghost use Rattle.placing.specs.States.{isFree, stateOf, Holds, Whose};
+ghost use Rattle.placing.specs.Added.{marksWith};
 ghost use Rattle.placing.specs.Searched.{Searched};
 ghost use Rattle.lbt.specs.Epochs.{Ran};
-ghost use Rattle.lbt.specs.Rounds.{openWrite, Lowest, Skipped, Turned, ended, answered, findingIn};
+ghost use Rattle.lbt.specs.Rounds.{openWrite, Lowest, Skipped, Turned};
 
-// What a round gives: kind stale where it is lost, fresh where it is won, spent where the allowance is used up.
-struct Turn {
-    state: State,
-    trials: u64,
-    kind: u64,
+// What an epoch gives beside the lent marks and order: these are as they were, or hold the state of `at` and `top`.
+enum Trial {
+    Failed,
+    Placed { at: usize, top: usize },
 }
 
-// What the walk gives: the order of a fresh history stands at order[from..to].
-pub struct Walked {
-    pub order: [u64; Row::LARGEST_COUNT],
-    pub from: usize,
-    pub to: usize,
-    pub trials: u64,
-    pub kind: u64,
+// What a round gives beside them: no epoch wins, one does and leaves the state of `at` and `top`, or the allowance is used up.
+enum Turn {
+    Lost { trials: u64 },
+    Won { at: usize, top: usize, trials: u64 },
+    Spent,
 }
 
-// An epoch from w: steps until no write is asked for, or one fails.
+// Clears the marks of the listed operations.
+fn clear(ops: &[u64], placed: &mut [u8])
+    requires { ⌜ ((i : ℕ) → i < length (now ops) → getD (now ops) i 0 < length (now placed)) ⌝ }
+    ensures { λ _. ⌜ now (placed .exit) ≡ marksWith 0 (now (placed .entry)) (now (ops .entry)) ⌝ }
+{
+    let n = ops.len();
+    let mut i: usize = 0;
+    while i < n {
+        let j = ops[i] as usize;
+        placed[j] = 0;
+        i += 1;
+    }
+}
+
+// An epoch from w: steps until no write is asked for, or one fails, and then the marks of what was placed are cleared.
 fn epoch(
     start: &[u64],
     finish: &[u64],
     writer: &[u64],
     last: &[u64],
     prev: &[u64],
-    s: State,
+    placed: &mut [u8],
+    order: &mut [u64],
+    at: usize,
+    top: usize,
     w: usize,
-) -> Tried
+) -> Trial
     requires { ⌜ Sound (cols (now start) (now finish) (now writer) (now last) (now prev)) ⌝ }
-    requires { ⌜ Holds (cols (now start) (now finish) (now writer) (now last) (now prev)) s ⌝ }
-    requires { ⌜ Whose (now writer) s w ⌝ }
-    requires { ⌜ Sized s ⌝ }
-    ensures { λ r. ⌜ Ran (cols (now (start .entry)) (now (finish .entry)) (now (writer .entry)) (now (last .entry)) (now (prev .entry))) w s r ⌝ }
+    requires { ⌜ Holds (cols (now start) (now finish) (now writer) (now last) (now prev)) (stateOf (now placed) (now order) at top) ⌝ }
+    requires { ⌜ Whose (now writer) (stateOf (now placed) (now order) at top) w ⌝ }
+    ensures { λ r. ⌜ Ran (cols (now (start .entry)) (now (finish .entry)) (now (writer .entry)) (now (last .entry)) (now (prev .entry))) w (stateOf (now (placed .entry)) (now (order .entry)) at top) (now (placed .exit)) (now (order .exit)) r ⌝ }
 {
-    let mut placed = s.placed;
-    let mut order = s.order;
-    let mut at = s.at;
-    let mut top = s.top;
+    let mut a = at;
+    let mut k = top;
     let mut v = w;
     loop {
-        let next = placing::step(
-            start,
-            finish,
-            writer,
-            last,
-            prev,
-            &mut placed,
-            &mut order,
-            at,
-            top,
-            v,
-        );
+        let next = placing::step(start, finish, writer, last, prev, placed, order, a, k, v);
         if next.failed {
-            return Tried {
-                state: s,
-                asked: 0,
-                failed: true,
-            };
+            let from = next.at;
+            let to = at;
+            clear(&order[from..to], placed);
+            return Trial::Failed;
         }
-        at = next.at;
-        top = next.top;
         if next.asked == 0 {
-            let state = State {
-                placed,
-                order,
-                at,
-                top,
-            };
-            return Tried {
-                state,
-                asked: 0,
-                failed: false,
+            return Trial::Placed {
+                at: next.at,
+                top: next.top,
             };
         }
+        a = next.at;
+        k = next.top;
         v = (next.asked - 1) as usize;
     }
 }
 
 // One more than the last write below `low` that is not placed, 0 where there is none.
-fn newest(writer: &[u64], placed: &[u8; Row::LARGEST_COUNT], low: usize) -> usize
+fn newest(writer: &[u64], placed: &[u8], low: usize) -> usize
     requires { ⌜ low ≤ length (now writer) ⌝ }
-    requires { ⌜ length (now writer) ≤ largestCount ⌝ }
+    requires { ⌜ length (now writer) ≤ length (now placed) ⌝ }
     ensures { λ r. ⌜ r ≡ latest (openWrite (now (writer .entry)) (now (placed .entry))) low ⌝ }
 {
     let mut k = low;
@@ -113,8 +104,8 @@ fn newest(writer: &[u64], placed: &[u8; Row::LARGEST_COUNT], low: usize) -> usiz
 }
 
 // The first of the writes in falling finish, from `from` on, that is not placed.
-fn first(falling: &[u64], placed: &[u8; Row::LARGEST_COUNT], from: usize) -> usize
-    requires { ⌜ ((i : ℕ) → i < length (now falling) → getD (now falling) i 0 < largestCount) ⌝ }
+fn first(falling: &[u64], placed: &[u8], from: usize) -> usize
+    requires { ⌜ ((i : ℕ) → i < length (now falling) → getD (now falling) i 0 < length (now placed)) ⌝ }
     requires { ⌜ Skipped (now falling) (now placed) from ⌝ }
     ensures { λ r. ⌜ Skipped (now (falling .entry)) (now (placed .entry)) r ⌝ }
 {
@@ -130,16 +121,6 @@ fn first(falling: &[u64], placed: &[u8; Row::LARGEST_COUNT], from: usize) -> usi
     i
 }
 
-fn ended(state: State, trials: u64, kind: u64) -> Turn
-    ensures { λ r. ⌜ r ≡ ended state trials kind ⌝ }
-{
-    Turn {
-        state: state,
-        trials: trials,
-        kind: kind,
-    }
-}
-
 // A round: the epochs of the candidates, by falling finish, until one wins.
 fn round(
     start: &[u64],
@@ -148,21 +129,23 @@ fn round(
     last: &[u64],
     prev: &[u64],
     falling: &[u64],
-    s: State,
+    placed: &mut [u8],
+    order: &mut [u64],
+    at: usize,
+    top: usize,
     low: usize,
     from: usize,
     allowance: u64,
     trials: u64,
 ) -> Turn
     requires { ⌜ Sound (cols (now start) (now finish) (now writer) (now last) (now prev)) ⌝ }
-    requires { ⌜ Holds (cols (now start) (now finish) (now writer) (now last) (now prev)) s ⌝ }
+    requires { ⌜ Holds (cols (now start) (now finish) (now writer) (now last) (now prev)) (stateOf (now placed) (now order) at top) ⌝ }
     requires { ⌜ now falling ≡ byFinish (cols (now start) (now finish) (now writer) (now last) (now prev)) ⌝ }
-    requires { ⌜ Lowest (cols (now start) (now finish) (now writer) (now last) (now prev)) s low ⌝ }
+    requires { ⌜ Lowest (cols (now start) (now finish) (now writer) (now last) (now prev)) (stateOf (now placed) (now order) at top) low ⌝ }
     requires { ⌜ low ≤ length (now start) ⌝ }
-    requires { ⌜ Skipped (now falling) (s .placed) from ⌝ }
+    requires { ⌜ Skipped (now falling) (now placed) from ⌝ }
     requires { ⌜ trials ≤ allowance ⌝ }
-    requires { ⌜ Sized s ⌝ }
-    ensures { λ r. ⌜ Turned (cols (now (start .entry)) (now (finish .entry)) (now (writer .entry)) (now (last .entry)) (now (prev .entry))) s trials allowance r ⌝ }
+    ensures { λ r. ⌜ Turned (cols (now (start .entry)) (now (finish .entry)) (now (writer .entry)) (now (last .entry)) (now (prev .entry))) (stateOf (now (placed .entry)) (now (order .entry)) at top) trials allowance (now (placed .exit)) (now (order .exit)) r ⌝ }
 {
     let newest = start[low - 1];
     let n = falling.len();
@@ -170,44 +153,32 @@ fn round(
     let mut i = from;
     let turn = 'candidates: loop {
         if n <= i {
-            break 'candidates ended(s, count, Search::STALE);
+            break 'candidates Turn::Lost { trials: count };
         }
         let w = falling[i] as usize;
         i += 1;
-        if s.placed[w] == 0 {
+        if placed[w] == 0 {
             if finish[w] < newest {
-                break 'candidates ended(s, count, Search::STALE);
+                break 'candidates Turn::Lost { trials: count };
             }
             if count == allowance {
-                break 'candidates ended(s, count, Search::SPENT);
+                break 'candidates Turn::Spent;
             }
             count += 1;
-            let tried = epoch(start, finish, writer, last, prev, s, w);
-            if !tried.failed {
-                let state = tried.state;
-                break 'candidates ended(state, count, Search::FRESH);
+            let tried = epoch(start, finish, writer, last, prev, placed, order, at, top, w);
+            if let Trial::Placed { at, top } = tried {
+                break 'candidates Turn::Won {
+                    at,
+                    top,
+                    trials: count,
+                };
             }
         }
     };
     turn
 }
 
-// The answer of the walk that ends with this round.
-fn answer(turn: Turn) -> Walked
-    ensures { λ r. ⌜ findingIn r ≡ answered turn ⌝ }
-{
-    let state = turn.state;
-    let order = state.order;
-    Walked {
-        order: order,
-        from: state.at,
-        to: Row::LARGEST_COUNT,
-        trials: turn.trials,
-        kind: turn.kind,
-    }
-}
-
-// The walk: rounds until nothing is left (fresh), one is lost (stale) or the allowance is used up (spent).
+// The walk, where the marks are clean: rounds until nothing is left (fresh), one is lost (stale) or the allowance is used up (spent).
 pub fn search(
     start: &[u64],
     finish: &[u64],
@@ -216,23 +187,34 @@ pub fn search(
     prev: &[u64],
     falling: &[u64],
     allowance: u64,
-) -> Walked
+    placed: &mut [u8],
+    order: &mut [u64],
+) -> Search
     requires { ⌜ Sound (cols (now start) (now finish) (now writer) (now last) (now prev)) ⌝ }
     requires { ⌜ now falling ≡ byFinish (cols (now start) (now finish) (now writer) (now last) (now prev)) ⌝ }
     requires { ⌜ length (now start) ≤ largestCount ⌝ }
-    ensures { λ r. ⌜ Searched (cols (now (start .entry)) (now (finish .entry)) (now (writer .entry)) (now (last .entry)) (now (prev .entry))) allowance (λ H. walked (lbt H)) (findingIn r) ⌝ }
+    requires { ⌜ length (now start) ≤ length (now placed) ⌝ }
+    requires { ⌜ ((i : ℕ) → i < length (now placed) → isFree (now placed) i ≡ true) ⌝ }
+    requires { ⌜ length (now start) ≤ length (now order) ⌝ }
+    ensures { λ r. ⌜ Searched (cols (now (start .entry)) (now (finish .entry)) (now (writer .entry)) (now (last .entry)) (now (prev .entry))) allowance (λ H. walked (lbt H)) (now (order .exit)) r ⌝ }
 {
     let n = start.len();
-    let mut state = placing::begin(n);
+    let to = order.len();
+    let mut at = to;
+    let mut top = n;
     let mut low = n;
     let mut from: usize = 0;
     let mut trials: u64 = 0;
     loop {
-        low = newest(writer, &state.placed, low);
+        low = newest(writer, placed, low);
         if low == 0 {
-            return answer(ended(state, trials, Search::FRESH));
+            return Search::Fresh {
+                from: at,
+                to,
+                trials,
+            };
         }
-        from = first(falling, &state.placed, from);
+        from = first(falling, placed, from);
         let turn = round(
             start,
             finish,
@@ -240,17 +222,27 @@ pub fn search(
             last,
             prev,
             falling,
-            state,
+            placed,
+            order,
+            at,
+            top,
             low,
             from,
             allowance,
             trials,
         );
-        if turn.kind != Search::FRESH {
-            return answer(turn);
+        match turn {
+            Turn::Lost { trials: tried } => return Search::Stale { trials: tried },
+            Turn::Spent => return Search::Spent,
+            Turn::Won {
+                at: front,
+                top: height,
+                trials: tried,
+            } => {
+                at = front;
+                top = height;
+                trials = tried;
+            }
         }
-        trials = turn.trials;
-        let next = turn.state;
-        state = next;
     }
 }

@@ -12,13 +12,14 @@ use Rattle.methods.specs.Lbt.{lbt}
 use Rattle.methods.specs.Fzf.{fzf}
 use Rattle.methods.specs.Mark.{Result, untried, walked, method}
 use Rattle.positions.specs.Columns.{Cols}
-use Rattle.placing.specs.Searched.{Finding, Searched, is-stale, is-fresh, is-spent}
+use Rattle.placing.specs.declared.Search.{Search}
+use Rattle.placing.specs.Searched.{Searched, is-stale, is-fresh, is-spent}
 
 -- what is found by one method is found by another that gives the same
-pub searched-by : {C : Cols} {allowance : ℕ} {r : Finding} (m n : List Op → Result) → ((H : List Op) → m H ≡ n H) → Searched C allowance m r → Searched C allowance n r
-searched-by m n e (is-stale q l s) = is-stale q l (λ H o. sym (e H) ∙ s H o)
-searched-by m n e (is-fresh q l a b s) = is-fresh q l a b (λ H o. sym (e H) ∙ s H o)
-searched-by m n e (is-spent q s) = is-spent q (λ H o. omega (arith, s H o, ap (λ x. x .trials) (e H)))
+pub searched-by : {C : Cols} {allowance : ℕ} {places : List ℕ} {r : Search} (m n : List Op → Result) → ((H : List Op) → m H ≡ n H) → Searched C allowance m places r → Searched C allowance n places r
+searched-by m n e (is-stale l s) = is-stale l (λ H o. sym (e H) ∙ s H o)
+searched-by m n e (is-fresh l a b s) = is-fresh l a b (λ H o. sym (e H) ∙ s H o)
+searched-by m n e (is-spent s) = is-spent (λ H o. omega (arith, s H o, ap (λ x. x .trials) (e H)))
 
 -- what each question asks for
 pub method-one : (question : ℕ) → question ≡ 1 → (H : List Op) → untried (zones H) ≡ method question H

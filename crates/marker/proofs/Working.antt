@@ -19,7 +19,8 @@ use Rattle.meaning.specs.Marked.{Passes}
 use Rattle.meaning.proofs.Methods.{Settles, settles-order, method-settles}
 use Rattle.positions.specs.Columns.{Cols, size, op, ops, Sound}
 use Rattle.positions.proofs.Columns.{size-is, of-sound}
-use Rattle.placing.specs.Searched.{Finding, found, Searched, is-stale, is-fresh, is-spent}
+use Rattle.placing.specs.declared.Search.{Search}
+use Rattle.placing.specs.Searched.{between, Searched, is-stale, is-fresh, is-spent}
 use Rattle.columns.specs.Rows.{Listed}
 use Rattle.columns.specs.Made.{Room, Made}
 use Rattle.columns.proofs.Made.{prepared-rows}
@@ -27,7 +28,7 @@ use Rattle.history.proofs.Rows.{rows-few}
 use Rattle.columns.proofs.Sorted.{rows-listed}
 use Rattle.joining.specs.Items.{Known}
 use Rattle.searches.specs.Replies.{Fits, Replied}
-use Rattle.searches.proofs.Answering.{found-long}
+use Rattle.searches.proofs.Answering.{between-long}
 use Rattle.marker.specs.Called.{Asked}
 
 module _ {t : List ℕ} {register : ℕ} {rows : List ℕ} (g : Listed t register rows) where
@@ -70,35 +71,25 @@ module _ {t : List ℕ} {register : ℕ} {rows : List ℕ} (g : Listed t registe
             )
 
     -- and so it fits the list
-    pub found-fits : {C : Cols} {allowance : ℕ} → Made t rows C → (r : Finding) → Searched C allowance (method question) r → (list : List ℕ) → length rows ≤ length list → Fits r list
-    found-fits m r (is-stale q l s) list room =
-        record {
-          rising = λ e. absurd (omega (arith, q, e));
-          inside = λ e. absurd (omega (arith, q, e));
-          room = λ e. absurd (omega (arith, q, e));
-        }
-    found-fits m r (is-spent q s) list room =
-        record {
-          rising = λ e. absurd (omega (arith, q, e));
-          inside = λ e. absurd (omega (arith, q, e));
-          room = λ e. absurd (omega (arith, q, e));
-        }
-    found-fits m r (is-fresh q l a b s) list room =
-        record { rising = λ e. a; inside = λ e. b; room = λ e. few }
+    pub found-fits : {C : Cols} {allowance : ℕ} {places : List ℕ} {r : Search} → Made t rows C → Searched C allowance (method question) places r → (list : List ℕ) →
+        length rows ≤ length list → Fits places list r
+    found-fits m (is-stale l s) list room = tt
+    found-fits m (is-spent s) list room = tt
+    found-fits {C} {allowance} {places} m (is-fresh {from} {to} l a b s) list room = (a, b, few)
       where
-        few : r .to - r .from ≤ length list
+        few : to - from ≤ length list
         few =
             omega (
               arith,
               rows-long,
-              found-long r a b,
-              length-map (found r) (op (prepared h)),
-              order-few (ops (prepared h) (found r)) (ap (λ x. x .decision) (s (prepared h) (m .columns register g))),
+              between-long places a b,
+              length-map (between places from to) (op (prepared h)),
+              order-few (ops (prepared h) (between places from to)) (ap (λ x. x .decision) (s (prepared h) (m .columns register g))),
             )
 
   -- THE OUTCOME, from what was found
-  pub work-ends : {C : Cols} {r : Finding} (question allowance : ℕ) (list : List ℕ) (out : Outcome) → Made t rows C → Searched C allowance (method question) r →
-      Replied rows allowance r list out → out ≡ judged (length h) allowance list (method question (prepared h))
+  pub work-ends : {C : Cols} {places : List ℕ} {r : Search} (question allowance : ℕ) (list : List ℕ) (out : Outcome) → Made t rows C →
+      Searched C allowance (method question) places r → Replied rows allowance places r list out → out ≡ judged (length h) allowance list (method question (prepared h))
   work-ends {C} question allowance list out m k f =
       f C (prepared h) (method question) (m .columns register g) (prepared-rows g) k
       ∙ ap (λ (n : ℕ). judged n allowance list (method question (prepared h))) rows-long

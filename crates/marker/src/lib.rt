@@ -3,7 +3,6 @@ use history::Answer;
 use history::Row;
 use placing::Search;
 ghost use mathlib.Core.Path.{_≡_};
-ghost use mathlib.Core.Logic.{_≢_};
 ghost use mathlib.Core.List.{List};
 ghost use Prim.Native.Nat.{ℕ, _≤_};
 ghost use lib.ListN.{length};
@@ -14,7 +13,7 @@ ghost use Rattle.methods.specs.Mark.{noQuestion, method, judged, markTests, mar
 ghost use Rattle.meaning.specs.Marked.{Passes};
 ghost use Rattle.meaning.specs.Demand.{Demand};
 ghost use Rattle.positions.specs.Columns.{cols, Sound};
-ghost use Rattle.placing.specs.Searched.{findingOf, Searched};
+ghost use Rattle.placing.specs.Searched.{Searched};
 ghost use Rattle.columns.specs.Rows.{Listed};
 ghost use Rattle.columns.specs.Made.{Room};
 ghost use Rattle.joining.specs.Items.{Known};
@@ -57,7 +56,7 @@ fn refusal(table: &[u64], register: u64, question: u64, room: usize) -> Answer
     nine
 }
 
-// The search by zones, or by FZF, into a lent order.
+// The search by the question's method, into a lent order.
 fn search(
     start: &[u64],
     finish: &[u64],
@@ -65,17 +64,20 @@ fn search(
     last: &[u64],
     prev: &[u64],
     question: u64,
+    allowance: u64,
     order: &mut [u64],
 ) -> Search
     requires { ⌜ Sound (cols (now start) (now finish) (now writer) (now last) (now prev)) ⌝ }
     requires { ⌜ length (now start) ≤ largestCount ⌝ }
     requires { ⌜ Known (cols (now start) (now finish) (now writer) (now last) (now prev)) ⌝ }
-    requires { ⌜ question ≢ 2 ⌝ }
     requires { ⌜ length (now start) ≤ length (now order) ⌝ }
-    ensures { λ r. ⌜ ((allowance : ℕ) → Searched (cols (now (start .entry)) (now (finish .entry)) (now (writer .entry)) (now (last .entry)) (now (prev .entry))) allowance (method question) (findingOf (now (order .exit)) r)) ⌝ }
+    ensures { λ r. ⌜ Searched (cols (now (start .entry)) (now (finish .entry)) (now (writer .entry)) (now (last .entry)) (now (prev .entry))) allowance (method question) (now (order .exit)) r ⌝ }
 {
     if question == ZONES {
         return zones::search(start, finish, writer, last, prev, order);
+    }
+    if question == LBT {
+        return searches::walk(start, finish, writer, last, prev, allowance, order);
     }
     fzf::search(start, finish, writer, last, prev, order)
 }
@@ -103,11 +105,16 @@ fn work(
     ensures { λ r. ⌜ ((register : ℕ) → Listed (now (table .entry)) register (now (rows .entry)) → outcome r (now (list .exit)) ≡ judged (length (history (now (table .entry)) register)) allowance (now (list .entry)) (method question (prepared (history (now (table .entry)) register)))) ⌝ }
 {
     columns::fill(table, rows, start, finish, writer, last, prev);
-    if question == LBT {
-        let walked = searches::walk(start, finish, writer, last, prev, allowance);
-        return searches::answer_walk(walked, rows, allowance, list);
-    }
-    let found = search(start, finish, writer, last, prev, question, order);
+    let found = search(
+        start,
+        finish,
+        writer,
+        last,
+        prev,
+        question,
+        allowance,
+        order,
+    );
     searches::answer(found, order, rows, allowance, list)
 }
 

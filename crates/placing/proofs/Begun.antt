@@ -1,9 +1,10 @@
--- The state before anything is placed: it holds, the whole history is left, and nothing is laid.
+-- The state before anything is placed, of marks that are clean and an order with all its places: it holds, the whole history is left, and
+-- nothing is laid.
 -- Assumes nothing.
 use Prim.Native.Nat.{ℕ, _≤_, _<_}
 use mathlib.Core.Path.{_≡_, ap, _∙_}
 use mathlib.Core.Bool.{true}
-use mathlib.Core.List.{[]}
+use mathlib.Core.List.{List, []}
 use native.Mathlib.Omega.{arith}
 use lib.ListN.{length, take, replicate, length-replicate, getD-replicate, drop-of-length-le}
 use lib.Seq.{take-all}
@@ -11,39 +12,37 @@ use Rattle.positions.specs.Columns.{Cols, size, wr, Sound, ops, Says}
 use Rattle.positions.proofs.Places.{upto-length}
 use Rattle.positions.proofs.Ops.{ops-all}
 use Rattle.positions.proofs.Columns.{size-is}
-use Rattle.placing.specs.States.{isFree, left, laid, begun, Sized, Ready, Holds}
+use Rattle.placing.specs.States.{State, isFree, left, laid, stateOf, Holds}
 
-pub begun-laid : (n : ℕ) → laid (begun n) ≡ []
-unfolding begun
-begun-laid n = drop-of-length-le (replicate 1024 0) {i = 1024} (omega (arith, length-replicate {A = ℕ} 1024 0))
+-- no place is marked at the outset
+pub unmarked : (n i : ℕ) → i < length (replicate {A = ℕ} n 0) → isFree (replicate n 0) i ≡ true
+unmarked n i l = rw (getD-replicate {A = ℕ} n i 0 0 (omega (arith, l, length-replicate {A = ℕ} n 0)))
 
-pub begun-free : (n j : ℕ) → j < 1024 → isFree (begun n .placed) j ≡ true
-unfolding begun
-begun-free n j l = rw (getD-replicate {A = ℕ} 1024 j 0 0 l)
+module _ (C : Cols) (p : Sound C) (n : size C ≤ 1024) (placed order : List ℕ) (m : size C ≤ length placed) (f : (j : ℕ) → j < length placed → isFree placed j ≡ true)
+    (z : size C ≤ length order) where
+  abbrev begun : State
+  begun = stateOf placed order (length order) (size C)
 
-pub begun-ready : (n : ℕ) → n ≤ 1024 → Ready n (begun n)
-unfolding begun
-begun-ready n h =
-    record {
-      size = h;
-      within = omega arith;
-      marks = omega (arith, length-replicate {A = ℕ} 1024 0);
-      high = omega (arith, length-replicate {A = ℕ} 1024 0);
-      room = omega (arith, upto-length (isFree (replicate 1024 0)) n);
-      above = λ j a b. absurd (omega arith);
-    }
+  pub begun-laid : laid begun ≡ []
+  begun-laid = drop-of-length-le order {i = length order} (omega arith)
 
-pub begun-sized : (n : ℕ) → Sized (begun n)
-unfolding begun
-begun-sized n = record { marks = length-replicate {A = ℕ} 1024 0; cells = length-replicate {A = ℕ} 1024 0 }
+  pub begun-holds : Holds C begun
+  begun-holds =
+      record {
+        ready =
+            record {
+              size = n;
+              within = omega arith;
+              marks = m;
+              high = omega arith;
+              room = omega (arith, upto-length (isFree placed) (size C));
+              above = λ j a b. absurd (omega arith);
+            };
+        closed = λ j l e. f (wr C j) (omega (arith, p .shape .writers j l));
+      }
 
-module _ (C : Cols) (p : Sound C) (n : size C ≤ 1024) where
-  pub begun-holds : Holds C (begun (size C))
-  begun-holds = record { ready = begun-ready (size C) n; closed = λ j l f. begun-free (size C) (wr C j) (omega (arith, p .shape .writers j l)) }
-
-  pub begun-left : Says C (λ H. ops H (left (begun (size C))) ≡ H)
-  unfolding begun
-  begun-left H f =
-      ops-all H (isFree (replicate 1024 0)) (size C) (omega (arith, size-is f)) (λ j l. begun-free (size C) j (omega arith))
-      ∙ ap (λ (k : ℕ). take k H) (size-is f)
+  pub begun-left : Says C (λ H. ops H (left begun) ≡ H)
+  begun-left H o =
+      ops-all H (isFree placed) (size C) (omega (arith, size-is o)) (λ j l. f j (omega arith))
+      ∙ ap (λ (k : ℕ). take k H) (size-is o)
       ∙ take-all (length H) H (omega arith)

@@ -19,10 +19,9 @@ use Rattle.positions.specs.Columns.{Cols, size, wr, Sound, op, ops, Of}
 use Rattle.positions.proofs.Places.{below}
 use Rattle.positions.proofs.Ops.{keep-ops, in-ops, ops-in}
 use Rattle.positions.proofs.Columns.{size-is, start-is, finish-is, own-is}
-use Rattle.placing.specs.States.{isFree, left, Holds, Whose}
+use Rattle.placing.specs.States.{State, isFree, left, Holds, Whose}
 use Rattle.placing.specs.Scanned.{Met}
 use Rattle.placing.specs.Stepped.{ending}
-use Rattle.placing.specs.declared.State.{State}
 
 -- j is later than w and not placed
 abbrev pub LaterThan : Cols → ℕ → State → ℕ → Type 0

@@ -6,7 +6,7 @@ use mathlib.Core.Bool.{Bool, true, false, not, cond}
 use mathlib.Core.Logic.{_⊎_, inl, inr, _≢_}
 use mathlib.Core.List.{List, _∷_, _++_}
 use native.Mathlib.Omega.{arith}
-use lib.ListN.{length, getD, set, length-append, length-set, length-drop}
+use lib.ListN.{length, getD, set, length-append, length-drop}
 use lib.Seq.{getD-set-same, getD-set-other}
 use lib.Dec.{eqb}
 use borrow.Author.Tests.{eqb-true, eqb-false, eq-eqb, ne-eqb}
@@ -15,13 +15,15 @@ use Rattle.positions.specs.Places.{upto, and, latest}
 use Rattle.positions.specs.Columns.{mine, readOf, Linked}
 use Rattle.positions.proofs.Places.{below, upto-parts, upto-stop, upto-some, no-cond}
 use Rattle.positions.proofs.Latest.{latest-le, latest-none, latest-at}
-use Rattle.placing.specs.States.{isFree, laid, stateOf, Ready, Whose}
+use Rattle.placing.specs.States.{State, isFree, laid, stateOf, Ready, Whose}
+use Rattle.placing.specs.Added.{Added}
 use Rattle.placing.specs.Owned.{Mine, Owned}
-use Rattle.placing.specs.declared.State.{State}
 use Rattle.placing.proofs.Moved.{Moved, moved-none, moved-down, moved-push, laid-push}
+use Rattle.placing.proofs.Adding.{added-none, added-top, added-push}
 
 -- the invariant, at the link k: the reads of w from k on are moved, and k is 0 or one more than a read of w
 pub record Linking (writer : List ℕ) (w k : ℕ) (s t : State) : Type 0 where
+  pub added : Added s t
   pub moved : Moved (Mine writer w s) (length writer) k s (t .placed) (t .order) (t .at)
   pub top : t .top ≡ s .top
   pub link : 0 < k → readOf writer w (k - 1) ≡ true
@@ -43,6 +45,7 @@ module _ (writer last prev : List ℕ) (w : ℕ) (p : Linked writer last prev) (
   link-none =
       rw (p .lasts w (h .inside) (h .write))
       (record {
+        added = added-none s;
         moved = moved-down (latest (readOf writer w) (length writer)) (latest-le _ _) (λ j a b. not-mine j (latest-none _ _ j a b)) (moved-none (r .high) (omega (arith, enough)));
         top = refl;
         link = latest-at (readOf writer w) (length writer);
@@ -66,6 +69,7 @@ module _ (writer last prev : List ℕ) (w : ℕ) (p : Linked writer last prev) (
     link-skip z =
         rw next
         (record {
+          added = g .added;
           moved = moved-down (latest (readOf writer w) (k - 1)) (omega (arith, latest-le (readOf writer w) (k - 1))) (λ j a b. go j a (below j (k - 1)) b) (g .moved);
           top = g .top;
           link = latest-at (readOf writer w) (k - 1);
@@ -89,6 +93,7 @@ module _ (writer last prev : List ℕ) (w : ℕ) (p : Linked writer last prev) (
       link-push =
           rw next
           (record {
+            added = added-push (k - 1) (omega (arith, r .marks, inside)) (eq-eqb _ _ (sym same-mark ∙ z)) link-room (omega (arith, g .moved .high, g .moved .cells)) (g .added);
             moved = moved-down (latest (readOf writer w) (k - 1)) (latest-le (readOf writer w) (k - 1)) (λ j a b. not-mine j (latest-none _ _ j a b)) (pushed .1);
             top = g .top;
             link = latest-at (readOf writer w) (k - 1);
@@ -113,8 +118,7 @@ module _ (writer last prev : List ℕ) (w : ℕ) (p : Linked writer last prev) (
     pub own-end : Owned writer w s (record { placed = set (t .placed) w 1; order = set (t .order) (t .at - 1) w; at = t .at - 1; top = t .top })
     own-end =
         record {
-          marks = length-set (t .placed) w 1 ∙ ended .marks;
-          cells = length-set (t .order) (t .at - 1) w ∙ ended .cells;
+          added = added-push w (omega (arith, r .marks, h .inside)) (h .free) own-room (omega (arith, ended .cells, ended .high)) (g .added);
           high = omega (arith, spent, enough);
           top = g .top;
           order = laid-push (t .order) (t .at) w own-room (omega (arith, ended .cells, ended .high)) ∙ ap (λ (l : List ℕ). w ∷ l) back;
@@ -140,4 +144,4 @@ module _ (writer last prev : List ℕ) (w : ℕ) (p : Linked writer last prev) (
 
 -- the top plays no part in it
 pub own-any : (writer : List ℕ) (w : ℕ) (s r : State) → Owned writer w s r → (top : ℕ) → Owned writer w (stateOf (s .placed) (s .order) (s .at) top) (stateOf (r .placed) (r .order) (r .at) top)
-own-any writer w s r o top = record { marks = o .marks; cells = o .cells; high = o .high; top = refl; order = o .order; free = o .free }
+own-any writer w s r o top = record { added = added-top top top (o .added); high = o .high; top = refl; order = o .order; free = o .free }

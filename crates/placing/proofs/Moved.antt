@@ -12,8 +12,7 @@ use lib.Seq.{drop-cons, drop-set-lt, getD-set-same, getD-set-other, append-snoc}
 use Rattle.lists.proofs.Tests.{both}
 use Rattle.positions.specs.Places.{upto}
 use Rattle.positions.proofs.Places.{below, upto-more, upto-stop}
-use Rattle.placing.specs.States.{isFree}
-use Rattle.placing.specs.declared.State.{State}
+use Rattle.placing.specs.States.{State, isFree}
 
 -- the invariant: what is still to move, then the order, is constant
 pub record Moved (L : ℕ → Bool) (m k : ℕ) (s : State) (p o : List ℕ) (a : ℕ) : Type 0 where

@@ -12,12 +12,13 @@ use borrow.Author.Tests.{ltb-true, lt-ltb, le-ltb, eqb-true, eqb-false, eq-eqb, 
 use Rattle.lists.proofs.Tests.{both}
 use Rattle.positions.specs.Places.{upto, and}
 use Rattle.positions.specs.Columns.{Shaped}
-use Rattle.positions.proofs.Places.{below, upto-empty, upto-parts, no-cond, cond-both}
+use Rattle.positions.proofs.Places.{below, upto-empty, upto-parts, no-cond}
 use Rattle.placing.specs.Rules.{clash, ask}
-use Rattle.placing.specs.States.{isFree, Ready, Shrinks}
+use Rattle.placing.specs.States.{State, isFree, Ready}
+use Rattle.placing.specs.Added.{Added}
 use Rattle.placing.specs.Scanned.{late, Late, Met, Asks, Kinds, Asking, Broken, a-write, two, Passed, Scanned, passed}
-use Rattle.placing.specs.declared.State.{State}
 use Rattle.placing.proofs.Moved.{Moved, moved-none, moved-down, moved-push}
+use Rattle.placing.proofs.Adding.{added-none, added-top, added-push}
 
 -- what a clash is, and what the write that is asked for says
 pub data Clashes (i v w asked : ℕ) : Type 0 where
@@ -64,6 +65,7 @@ module _ (i v w asked : ℕ) where
 -- the invariant: what was late is moved, and what it asks for is known
 module _ (start writer : List ℕ) (w bound : ℕ) where
   pub record Passing (s t : State) (asked : ℕ) : Type 0 where
+    pub added : Added s t
     pub moved : Moved (Late start writer w bound s) (s .top) (t .top) s (t .placed) (t .order) (t .at)
     pub after : (j : ℕ) → t .top ≤ j → j < s .top → bound < getD start j 0
     pub kinds : Kinds start writer w bound s (t .top) asked
@@ -78,19 +80,12 @@ module _ (start writer : List ℕ) (w bound : ℕ) where
   pub scan-none : (n : ℕ) (s : State) → Ready n s → Passing s s 0
   scan-none n s r =
       record {
+        added = added-none s;
         moved = moved-none (r .high) (omega (arith, r .room, upto-parts (isFree (s .placed)) (late start bound) (s .top)));
         after = λ j h k. absurd (omega arith);
         kinds = λ j m. absurd (omega (arith, m .from, m .under));
         asks = inl refl;
       }
-
-  -- what is marked was free, and is late
-  pub scan-shrinks : (s t : State) (asked : ℕ) → Passing s t asked → (n : ℕ) → Shrinks n (s .placed) (t .placed)
-  scan-shrinks s t asked g n j l e = go (Late start writer w bound s j) refl
-    where
-      go : (b : Bool) → Late start writer w bound s j ≡ b → isFree (s .placed) j ≡ true
-      go true q = cond-both _ _ q .0
-      go false q = sym (ap (λ (x : ℕ). eqb x 0) (g .moved .kept j (inr q))) ∙ e
 
   -- one position down from k = t .top, to i, which is late
   module _ (s t : State) (asked i : ℕ) (e : t .top ≡ i + 1) (g : Passing s t asked) (l : bound < getD start i 0) where
@@ -118,6 +113,7 @@ module _ (start writer : List ℕ) (w bound : ℕ) where
     pub scan-skip : (getD (t .placed) i 0 ≡ 0 → ⊥) → Passing s (record { placed = t .placed; order = t .order; at = t .at; top = i }) asked
     scan-skip n =
         record {
+          added = added-top (s .top) i (g .added);
           moved = moved-down i (omega arith) (λ j h k. let q : j ≡ i = omega arith in rw (q, marked)) (g .moved);
           after = after-more;
           kinds = λ j m. go j m (here-or-up j (m .from));
@@ -165,6 +161,7 @@ module _ (start writer : List ℕ) (w bound : ℕ) where
           → Passing s (record { placed = set (t .placed) i 1; order = set (t .order) (t .at - 1) i; at = t .at - 1; top = i }) (ask (getD writer i 0) w asked)
       scan-push small h =
           record {
+            added = added-top (s .top) i (added-push i small open-here (scan-room small) (omega (arith, g .moved .high, g .moved .cells)) (g .added));
             moved = moved-push i e small taken (g .moved) .1;
             after = after-more;
             kinds = λ j m. go j m (here-or-up j (m .from)) (k .asks);
@@ -207,10 +204,8 @@ module _ (start writer : List ℕ) (w bound : ℕ) where
       → Passed start writer w bound s t asked
   scan-end s t asked r g u =
       record {
+        added = g .added;
         within = g .moved .within;
-        marks = g .moved .marks;
-        cells = g .moved .cells;
-        high = g .moved .high;
         over = g .after;
         order = rw bottom at (g .moved .order);
         free = λ j l. frees j l (isFree (s .placed) j) refl (late start bound j) refl;

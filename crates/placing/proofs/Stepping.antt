@@ -20,12 +20,12 @@ use Rattle.positions.specs.Columns.{Cols, size, wr, isRead, mine, Sound, op, op
 use Rattle.positions.proofs.Places.{below, upto-ext, upto-stop, upto-parts, upto-some, no-cond, cond-assoc, cond-both}
 use Rattle.positions.proofs.Ops.{keep-ops}
 use Rattle.positions.proofs.Columns.{size-is, start-is, finish-is, own-is, same-is}
-use Rattle.placing.specs.States.{isFree, left, laid, stateOf, Ready, Holds, Whose, Shrinks}
+use Rattle.placing.specs.States.{State, Tried, isFree, left, laid, stateOf, Ready, Holds, Whose}
+use Rattle.placing.specs.Added.{Added}
 use Rattle.placing.specs.Scanned.{late, Asking, Passed, Scanned, broke, passed}
 use Rattle.placing.specs.Owned.{Mine, Owned}
 use Rattle.placing.specs.Stepped.{ending, Stepped, fails, goes}
-use Rattle.placing.specs.declared.State.{State}
-use Rattle.placing.specs.declared.Tried.{Tried}
+use Rattle.placing.proofs.Adding.{added-marks, added-twice, added-as}
 
 -- a state is ready with any higher top, for nothing is left there
 pub ready-whole : {n : ℕ} {s : State} → Ready n s → Ready n (stateOf (s .placed) (s .order) (s .at) n)
@@ -91,8 +91,8 @@ module _ (C : Cols) (p : Sound C) (w : ℕ) (s : State) (h : Holds C s) (k : Who
         record {
           size = h .ready .size;
           within = omega (arith, g .within, h .ready .within);
-          marks = omega (arith, g .marks, h .ready .marks);
-          high = omega (arith, g .cells, g .high);
+          marks = omega (arith, added-marks (g .added), h .ready .marks);
+          high = omega (arith, g .added .cells, g .added .place, h .ready .high);
           room =
               omega (
                 arith,
@@ -101,8 +101,8 @@ module _ (C : Cols) (p : Sound C) (w : ℕ) (s : State) (h : Holds C s) (k : Who
                 simp (length-append, length-drop) at (ap length (g .order)),
                 h .ready .room,
                 h .ready .high,
-                g .cells,
-                g .high,
+                g .added .cells,
+                g .added .place,
               );
           above = scan-above;
         }
@@ -155,8 +155,8 @@ module _ (C : Cols) (p : Sound C) (w : ℕ) (s : State) (h : Holds C s) (k : Who
           record {
             size = h .ready .size;
             within = omega (arith, scan-ready .within, o .top);
-            marks = omega (arith, o .marks, scan-ready .marks);
-            high = omega (arith, o .cells, o .high, scan-ready .high);
+            marks = omega (arith, added-marks (o .added), scan-ready .marks);
+            high = omega (arith, o .added .cells, o .high, scan-ready .high);
             room =
                 omega (
                   arith,
@@ -169,9 +169,8 @@ module _ (C : Cols) (p : Sound C) (w : ℕ) (s : State) (h : Holds C s) (k : Who
                   simp (length-append, length-drop) at (ap length (o .order)),
                   scan-ready .room,
                   o .high,
-                  o .cells,
-                  g .cells,
-                  g .high,
+                  o .added .cells,
+                  scan-ready .high,
                 );
             above = λ j a l. end-none j (omega (arith, o .top)) l;
           }
@@ -248,7 +247,7 @@ module _ (C : Cols) (p : Sound C) (w : ℕ) (s : State) (h : Holds C s) (k : Who
   End q = Scanned (C .start) (C .writer) w (ending C w) s q
 
   pub step-fails : (q : Tried) → End q → q .failed ≡ true → Stepped C w s q
-  step-fails q (broke e b) f = fails f b
+  step-fails q (broke e a b) f = fails f a b
   step-fails q (passed e g) f = absurd (both f e)
 
   -- what the chain requires after the scan, whose top plays no part in it
@@ -256,44 +255,43 @@ module _ (C : Cols) (p : Sound C) (w : ℕ) (s : State) (h : Holds C s) (k : Who
   Whole t = stateOf (t .placed) (t .order) (t .at) (length (C .writer))
 
   pub after-ready : (q : Tried) → End q → q .failed ≡ false → Ready (length (C .writer)) (Whole (q .state))
-  after-ready q (broke e b) f = absurd (both e f)
+  after-ready q (broke e a b) f = absurd (both e f)
   after-ready q (passed e g) f = ready-whole {s = q .state} (rw (p .shape .long) (scan-ready C p w s h k (q .state) (q .asked) g))
 
   pub after-whose : (q : Tried) → End q → q .failed ≡ false → Whose (C .writer) (Whole (q .state)) w
-  after-whose q (broke e b) f = absurd (both e f)
+  after-whose q (broke e a b) f = absurd (both e f)
   after-whose q (passed e g) f = let x = scan-whose C p w s h k (q .state) (q .asked) g in record { inside = x .inside; write = x .write; free = x .free }
-
-  -- the chain frees nothing
-  pub own-shrinks : {t r : State} → Owned (C .writer) w t r → Shrinks (size C) (t .placed) (r .placed)
-  own-shrinks o j l e = cond-both _ _ (sym (o .free j (omega (arith, p .shape .long))) ∙ e) .0
 
   pub step-goes : (q : Tried) → End q → q .failed ≡ false → (r : State) → Owned (C .writer) w (q .state) r
       → Stepped C w s (record { state = r; asked = q .asked; failed = false })
-  step-goes q (broke e b) f r o = absurd (both e f)
+  step-goes q (broke e a b) f r o = absurd (both e f)
   step-goes q (passed e g) f r o =
       goes refl
       (record {
+        added = added;
         holds = end-holds C p w s h k (q .state) (q .asked) g r o;
-        marks = o .marks ∙ g .marks;
-        cells = o .cells ∙ g .cells;
         less = omega (arith, o .high, lower);
-        shrinks = λ j l e. cond-both _ _ (cond-both _ _ (sym (end-free C p w s h k (q .state) (q .asked) g r o j l) ∙ e) .0) .0;
         keeps =
             λ v d y. record {
               inside = y .inside;
               write = y .write;
               free = end-write C p w s h k (q .state) (q .asked) g r o v (omega (arith, y .inside, p .shape .long)) (y .free) (y .write) d;
             };
-        order = w ∷ (owned C p w s h k ++ lates C p w s h k);
-        lays = end-lays C p w s h k (q .state) (q .asked) g r o;
         leaves = end-rest C p w s h k (q .state) (q .asked) g r o;
-        segments = end-segment C p w s h k (q .state) (q .asked) g r o;
+        segments = λ H f. end-segment C p w s h k (q .state) (q .asked) g r o H f ∙ ap (ops H) (sym all);
         told = record { kinds = g .kinds; asks = g .asks };
         next = λ v y. go v y (g .asks);
       })
     where
+      added : Added s r
+      added = added-twice (g .added) (o .added)
+
+      -- what was added is w, its reads, and what is late
+      all : added .ops ≡ w ∷ (owned C p w s h k ++ lates C p w s h k)
+      all = added-as added _ (end-lays C p w s h k (q .state) (q .asked) g r o)
+
       lower : q .state .at ≤ s .at
-      lower = omega (arith, simp (length-append, length-drop) at (ap length (g .order)), h .ready .high, g .cells, g .high)
+      lower = omega (arith, g .added .place)
 
       go : (v : ℕ) → q .asked ≡ v + 1 → Asking (C .start) (C .writer) w (ending C w) s 0 (q .asked) → Whose (C .writer) r v
       go v y (inl z) = absurd (omega arith)

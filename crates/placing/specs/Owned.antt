@@ -7,8 +7,8 @@ use mathlib.Core.List.{List, _∷_, _++_}
 use lib.ListN.{length}
 use Rattle.positions.specs.Places.{upto, and}
 use Rattle.positions.specs.Columns.{mine, readOf}
-use Rattle.placing.specs.States.{isFree, laid}
-use Rattle.placing.specs.declared.State.{State}
+use Rattle.placing.specs.States.{State, isFree, laid}
+use Rattle.placing.specs.Added.{Added}
 
 -- j is a read of w that is not placed
 abbrev pub Mine : List ℕ → ℕ → State → ℕ → Bool
@@ -16,8 +16,7 @@ Mine writer w s = and (isFree (s .placed)) (readOf writer w)
 
 -- THE CONTRACT of that placing: w, then those reads rising, then what was laid; and nothing of w is left
 pub record Owned (writer : List ℕ) (w : ℕ) (s r : State) : Type 0 where
-  pub marks : length (r .placed) ≡ length (s .placed)
-  pub cells : length (r .order) ≡ length (s .order)
+  pub added : Added s r
   pub high : r .at < s .at
   pub top : r .top ≡ s .top
   pub order : laid r ≡ w ∷ (upto (Mine writer w s) (length writer) ++ laid s)

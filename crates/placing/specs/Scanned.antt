@@ -9,9 +9,8 @@ use mathlib.Core.List.{List, _++_}
 use lib.ListN.{length, getD}
 use lib.Dec.{ltb}
 use Rattle.positions.specs.Places.{upto, and}
-use Rattle.placing.specs.States.{isFree, laid}
-use Rattle.placing.specs.declared.State.{State}
-use Rattle.placing.specs.declared.Tried.{Tried}
+use Rattle.placing.specs.States.{State, Tried, isFree, laid}
+use Rattle.placing.specs.Added.{Added}
 
 -- j starts after bound
 abbrev pub late : List ℕ → ℕ → ℕ → Bool
@@ -50,17 +49,15 @@ module _ (start writer : List ℕ) (w bound : ℕ) where
 
   -- everything late is placed, and what it asks for is known
   pub record Passed (s r : State) (asked : ℕ) : Type 0 where
+    pub added : Added s r
     pub within : r .top ≤ s .top
-    pub marks : length (r .placed) ≡ length (s .placed)
-    pub cells : length (r .order) ≡ length (s .order)
-    pub high : r .at ≤ length (s .order)
     pub over : (j : ℕ) → r .top ≤ j → j < s .top → bound < getD start j 0
     pub order : laid r ≡ upto (Late s) (s .top) ++ laid s
     pub free : (j : ℕ) → j < length start → isFree (r .placed) j ≡ and (isFree (s .placed)) (λ i. not (late start bound i)) j
     pub kinds : Kinds s 0 asked
     pub asks : Asking s 0 asked
 
-  -- THE CONTRACT of the scan
+  -- THE CONTRACT of the scan, which has also placed something where it fails
   pub data Scanned (s : State) (r : Tried) : Type 0 where
-    broke : r .failed ≡ true → Broken s → Scanned s r
+    broke : r .failed ≡ true → Added s (r .state) → Broken s → Scanned s r
     passed : r .failed ≡ false → Passed s (r .state) (r .asked) → Scanned s r

@@ -9,25 +9,15 @@ use Rattle.methods.specs.Zones.{none, order}
 use Rattle.methods.specs.Mark.{Result}
 use Rattle.positions.specs.Columns.{Cols, ops, Says}
 use Rattle.placing.specs.declared.Search.{Search}
+use Rattle.placing.specs.declared.Search.the-variants.{Stale, Fresh, Spent}
 
--- what a search gives, and the places that its order stands in
-pub record Finding : Type 0 where
-  pub order : List ℕ
-  pub from : ℕ
-  pub to : ℕ
-  pub trials : ℕ
-  pub kind : ℕ
+-- the positions that stand at the places from .. to
+abbrev pub between : List ℕ → ℕ → ℕ → List ℕ
+between places from to = take (to - from) (drop from places)
 
-abbrev pub findingOf : List ℕ → Search → Finding
-findingOf places r = record { order = places; from = r .from; to = r .to; trials = r .trials; kind = r .kind }
-
--- the positions that were found
-abbrev pub found : Finding → List ℕ
-found r = take (r .to - r .from) (drop (r .from) (r .order))
-
--- THE CONTRACT of a search by the method m: no order, an order, or more trials than the allowance
-pub data Searched (C : Cols) (allowance : ℕ) (m : List Op → Result) (r : Finding) : Type 0 where
-  is-stale : r .kind ≡ 0 → r .trials ≤ allowance → Says C (λ H. m H ≡ record { decision = none; trials = r .trials }) → Searched C allowance m r
-  is-fresh : r .kind ≡ 1 → r .trials ≤ allowance → r .from ≤ r .to → r .to ≤ length (r .order) →
-      Says C (λ H. m H ≡ record { decision = order (ops H (found r)); trials = r .trials }) → Searched C allowance m r
-  is-spent : r .kind ≡ 2 → Says C (λ H. allowance < m H .trials) → Searched C allowance m r
+-- THE CONTRACT of a search by the method m into places: no order, an order, or more trials than the allowance
+pub data Searched (C : Cols) (allowance : ℕ) (m : List Op → Result) (places : List ℕ) : Search → Type 0 where
+  is-stale : {t : ℕ} → t ≤ allowance → Says C (λ H. m H ≡ record { decision = none; trials = t }) → Searched C allowance m places (Stale t)
+  is-fresh : {from to t : ℕ} → t ≤ allowance → from ≤ to → to ≤ length places →
+      Says C (λ H. m H ≡ record { decision = order (ops H (between places from to)); trials = t }) → Searched C allowance m places (Fresh from to t)
+  is-spent : Says C (λ H. allowance < m H .trials) → Searched C allowance m places Spent

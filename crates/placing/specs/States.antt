@@ -4,14 +4,25 @@ use Prim.Native.Nat.{ℕ, _≤_, _<_}
 use mathlib.Core.Path.{_≡_}
 use mathlib.Core.Bool.{Bool, true, false}
 use mathlib.Core.List.{List}
-use lib.ListN.{length, getD, drop, replicate}
+use lib.ListN.{length, getD, drop}
 use lib.Dec.{eqb}
 use Rattle.history.specs.Table.{largestCount}
 use Rattle.positions.specs.Places.{upto}
 use Rattle.positions.specs.Columns.{Cols, size, wr}
-use Rattle.placing.specs.declared.State.{State}
 use Rattle.placing.specs.declared.Front.{Front}
-use Rattle.placing.specs.declared.Tried.{Tried}
+
+-- what is placed is marked, and stands in the order from `at` on; nothing from `top` on is left to place
+pub record State : Type 0 where
+  pub placed : List ℕ
+  pub order : List ℕ
+  pub at : ℕ
+  pub top : ℕ
+
+-- what was tried, with the state that it left; asked is the write that is asked for plus one, 0 for none
+pub record Tried : Type 0 where
+  pub state : State
+  pub asked : ℕ
+  pub failed : Bool
 
 -- the operation at j is not placed
 abbrev pub isFree : List ℕ → ℕ → Bool
@@ -24,15 +35,6 @@ left s = upto (isFree (s .placed)) (s .top)
 -- the order so far
 abbrev pub laid : State → List ℕ
 laid s = drop (s .at) (s .order)
-
--- the state before anything is placed
-unfoldable pub begun : ℕ → State
-begun n = record { placed = replicate largestCount 0; order = replicate largestCount 0; at = largestCount; top = n }
-
--- a state with a mark and a place in the order for each row that a table may have
-pub record Sized (s : State) : Type 0 where
-  pub marks : length (s .placed) ≡ largestCount
-  pub cells : length (s .order) ≡ largestCount
 
 -- the state of lent marks and a lent order, and what was tried with them
 abbrev pub stateOf : List ℕ → List ℕ → ℕ → ℕ → State

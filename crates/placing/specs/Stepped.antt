@@ -5,14 +5,12 @@ use Prim.Native.Nat.{ℕ, _+_, _<_}
 use mathlib.Core.Path.{_≡_}
 use mathlib.Core.Bool.{true, false}
 use mathlib.Core.Logic.{_≢_}
-use mathlib.Core.List.{List, _++_}
-use lib.ListN.{length, getD}
+use lib.ListN.{getD}
 use Rattle.methods.specs.Place.{rest, segment}
-use Rattle.positions.specs.Columns.{Cols, size, op, ops, Says}
-use Rattle.placing.specs.States.{isFree, left, laid, Holds, Whose}
+use Rattle.positions.specs.Columns.{Cols, op, ops, Says}
+use Rattle.placing.specs.States.{State, Tried, left, Holds, Whose}
+use Rattle.placing.specs.Added.{Added}
 use Rattle.placing.specs.Scanned.{Kinds, Asking, Broken}
-use Rattle.placing.specs.declared.State.{State}
-use Rattle.placing.specs.declared.Tried.{Tried}
 
 -- the finish of w
 abbrev pub ending : Cols → ℕ → ℕ
@@ -25,20 +23,16 @@ pub record Told (C : Cols) (w : ℕ) (s : State) (asked : ℕ) : Type 0 where
 
 -- w is placed: what is left then, what was put in front, and what is asked for
 pub record Went (C : Cols) (w : ℕ) (s : State) (r : Tried) : Type 0 where
+  pub added : Added s (r .state)
   pub holds : Holds C (r .state)
-  pub marks : length (r .state .placed) ≡ length (s .placed)
-  pub cells : length (r .state .order) ≡ length (s .order)
   pub less : r .state .at < s .at
-  pub shrinks : (j : ℕ) → j < size C → isFree (r .state .placed) j ≡ true → isFree (s .placed) j ≡ true
   pub keeps : (v : ℕ) → v ≢ w → Whose (C .writer) s v → Whose (C .writer) (r .state) v
-  pub order : List ℕ
-  pub lays : order ++ laid s ≡ laid (r .state)
   pub leaves : Says C (λ H. rest (op H w) (ops H (left s)) ≡ ops H (left (r .state)))
-  pub segments : Says C (λ H. segment (op H w) (ops H (left s)) ≡ ops H order)
+  pub segments : Says C (λ H. segment (op H w) (ops H (left s)) ≡ ops H (added .ops))
   pub told : Told C w s (r .asked)
   pub next : (v : ℕ) → r .asked ≡ v + 1 → Whose (C .writer) (r .state) v
 
--- THE CONTRACT of a step
+-- THE CONTRACT of a step, which has also placed something where it fails
 pub data Stepped (C : Cols) (w : ℕ) (s : State) (r : Tried) : Type 0 where
-  fails : r .failed ≡ true → Broken (C .start) (C .writer) w (ending C w) s → Stepped C w s r
+  fails : r .failed ≡ true → Added s (r .state) → Broken (C .start) (C .writer) w (ending C w) s → Stepped C w s r
   goes : r .failed ≡ false → Went C w s r → Stepped C w s r

@@ -1,25 +1,17 @@
 // The placing step over the columns of a prepared history: marks on positions, and an order that is filled from the back.
-use history::Row;
 ghost use mathlib.Core.Path.{_≡_};
 ghost use Prim.Native.Nat.{ℕ, _<_};
 ghost use lib.ListN.{length};
 ghost use Rattle.history.specs.Table.{largestCount};
 ghost use Rattle.positions.specs.Columns.{cols, Linked, Shaped, Sound};
 ghost use Rattle.placing.specs.Rules.{clash, ask};
-ghost use Rattle.placing.specs.States.{begun, stateOf, triedOf, Ready, Holds, Whose, Shrinks};
+ghost use Rattle.placing.specs.States.{stateOf, triedOf, Ready, Holds, Whose};
 ghost use Rattle.placing.specs.Scanned.{Scanned};
 ghost use Rattle.placing.specs.Owned.{Owned};
 ghost use Rattle.placing.specs.Stepped.{Stepped};
 
-// What is placed is marked, and stands in the order from `at` on; nothing from `top` on is left to place.
-pub struct State {
-    pub placed: [u8; Row::LARGEST_COUNT],
-    pub order: [u64; Row::LARGEST_COUNT],
-    pub at: usize,
-    pub top: usize,
-}
-
-// What a scan or a step gives beside the lent marks and order: the write that it asks for plus one, 0 for none.
+// What a scan or a step gives beside the lent marks and order, in which what is placed is marked and stands from `at` on, while nothing from `top` on
+// is left to place: also the write that it asks for plus one, 0 for none.
 pub struct Front {
     pub at: usize,
     pub top: usize,
@@ -27,27 +19,11 @@ pub struct Front {
     pub failed: bool,
 }
 
-// What was tried, with the state that it left.
-pub struct Tried {
-    pub state: State,
-    pub asked: u64,
-    pub failed: bool,
-}
-
-// What a search gives beside the lent order; that of a fresh history stands at order[from..to].
-pub struct Search {
-    pub from: usize,
-    pub to: usize,
-    pub trials: u64,
-    pub kind: u64,
-}
-
-impl Search {
-    pub const STALE: u64 = 0;
-
-    pub const FRESH: u64 = 1;
-
-    pub const SPENT: u64 = 2;
+// What a search found: no order; an order, which stands at [from..to] of the lent one; or that the allowance was used up.
+pub enum Search {
+    Stale { trials: u64 },
+    Fresh { from: usize, to: usize, trials: u64 },
+    Spent,
 }
 
 // Whether the unplaced operation i, of the write v, ends the scan for w.
@@ -88,8 +64,7 @@ fn scan(
 ) -> Front
     requires { ⌜ Shaped (now start) (now writer) ⌝ }
     requires { ⌜ Ready (length (now start)) (stateOf (now placed) (now order) at top) ⌝ }
-    ensures end { λ r. ⌜ Scanned (now (start .entry)) (now (writer .entry)) w bound (stateOf (now (placed .entry)) (now (order .entry)) at top) (triedOf (now (placed .exit)) (now (order .exit)) r) ⌝ }
-    ensures marks { λ _. ⌜ Shrinks (length (now (start .entry))) (now (placed .entry)) (now (placed .exit)) ⌝ }
+    ensures { λ r. ⌜ Scanned (now (start .entry)) (now (writer .entry)) w bound (stateOf (now (placed .entry)) (now (order .entry)) at top) (triedOf (now (placed .exit)) (now (order .exit)) r) ⌝ }
 {
     let mut a = at;
     let mut k = top;
@@ -177,8 +152,7 @@ pub fn step(
     requires { ⌜ Sound (cols (now start) (now finish) (now writer) (now last) (now prev)) ⌝ }
     requires { ⌜ Holds (cols (now start) (now finish) (now writer) (now last) (now prev)) (stateOf (now placed) (now order) at top) ⌝ }
     requires { ⌜ Whose (now writer) (stateOf (now placed) (now order) at top) w ⌝ }
-    ensures end { λ r. ⌜ Stepped (cols (now (start .entry)) (now (finish .entry)) (now (writer .entry)) (now (last .entry)) (now (prev .entry))) w (stateOf (now (placed .entry)) (now (order .entry)) at top) (triedOf (now (placed .exit)) (now (order .exit)) r) ⌝ }
-    ensures marks { λ _. ⌜ Shrinks (length (now (start .entry))) (now (placed .entry)) (now (placed .exit)) ⌝ }
+    ensures { λ r. ⌜ Stepped (cols (now (start .entry)) (now (finish .entry)) (now (writer .entry)) (now (last .entry)) (now (prev .entry))) w (stateOf (now (placed .entry)) (now (order .entry)) at top) (triedOf (now (placed .exit)) (now (order .exit)) r) ⌝ }
 {
     let bound = finish[w];
     let seen = scan(start, writer, placed, order, at, top, w as u64, bound);
@@ -191,17 +165,5 @@ pub fn step(
         top: seen.top,
         asked: seen.asked,
         failed: false,
-    }
-}
-
-// The state before anything is placed, of n operations.
-pub fn begin(n: usize) -> State
-    ensures { λ r. ⌜ r ≡ begun n ⌝ }
-{
-    State {
-        placed: [0u8; Row::LARGEST_COUNT],
-        order: [0u64; Row::LARGEST_COUNT],
-        at: Row::LARGEST_COUNT,
-        top: n,
     }
 }

@@ -8,19 +8,21 @@ use Rattle.history.specs.declared.Op.{Op}
 use Rattle.history.specs.declared.Answer.{Answer}
 use Rattle.methods.specs.Mark.{Outcome, Result, rowNumbers, judged}
 use Rattle.positions.specs.Columns.{Cols, Of}
-use Rattle.placing.specs.Searched.{Finding, Searched}
+use Rattle.placing.specs.declared.Search.{Search}
+use Rattle.placing.specs.declared.Search.the-variants.{Stale, Fresh, Spent}
+use Rattle.placing.specs.Searched.{Searched}
 
 -- an answer and the list that it comes with
 abbrev pub outcome : Answer → List ℕ → Outcome
 outcome a l = record { answer = a; list = l }
 
 -- an order that was found stands within its places, and is no longer than the list
-pub record Fits (r : Finding) (list : List ℕ) : Type 0 where
-  pub rising : r .kind ≡ 1 → r .from ≤ r .to
-  pub inside : r .kind ≡ 1 → r .to ≤ length (r .order)
-  pub room : r .kind ≡ 1 → r .to - r .from ≤ length list
+abbrev pub Fits : List ℕ → List ℕ → Search → Type 0
+Fits places list (Stale t) = Unit {0}
+Fits places list (Fresh from to t) = (from ≤ to) × (to ≤ length places) × (to - from ≤ length list)
+Fits places list Spent = Unit {0}
 
 -- the outcome of what was found, whatever the method and the prepared history that it was found by
-abbrev pub Replied : List ℕ → ℕ → Finding → List ℕ → Outcome → Type 0
-Replied rows allowance r list out =
-    (C : Cols) (H : List Op) (m : List Op → Result) → Of C H → rows ≡ rowNumbers H → Searched C allowance m r → out ≡ judged (length rows) allowance list (m H)
+abbrev pub Replied : List ℕ → ℕ → List ℕ → Search → List ℕ → Outcome → Type 0
+Replied rows allowance places r list out =
+    (C : Cols) (H : List Op) (m : List Op → Result) → Of C H → rows ≡ rowNumbers H → Searched C allowance m places r → out ≡ judged (length rows) allowance list (m H)

@@ -1,22 +1,23 @@
 // LBT over a prepared history in columns, with its candidates by falling finish; and the answer to what a search found, with the order's rows in the lent list.
 use history::Answer;
 use history::Row;
-use lbt::Walked;
 use placing::Search;
-ghost use Prim.Native.Nat.{_≤_};
+ghost use mathlib.Core.Path.{_≡_};
+ghost use mathlib.Core.Bool.{true};
+ghost use Prim.Native.Nat.{ℕ, _≤_, _<_};
 ghost use lib.ListN.{length};
 ghost use Rattle.history.specs.Table.{largestCount};
 ghost use Rattle.methods.specs.Lbt.{lbt};
 ghost use Rattle.methods.specs.Mark.{walked};
 ghost use Rattle.positions.specs.Columns.{cols, Sound};
-ghost use Rattle.placing.specs.Searched.{findingOf, Searched};
-ghost use Rattle.lbt.specs.Rounds.{findingIn};
+ghost use Rattle.placing.specs.States.{isFree};
+ghost use Rattle.placing.specs.Searched.{Searched};
 ghost use Rattle.searches.specs.Replies.{outcome, Fits, Replied};
 
-// So many rows are few: short arrays do for them, which are sooner cleared than the long ones.
+// So many operations are few: short arrays do for them, which are sooner cleared than the long ones.
 const FEW: usize = 32;
 
-// LBT, with the writes by falling finish in a slice that has a place for each operation.
+// LBT, where the slices have a place for each operation, and the marks are clean; `falling` is for the candidates by falling finish.
 fn walk_with(
     start: &[u64],
     finish: &[u64],
@@ -25,17 +26,93 @@ fn walk_with(
     prev: &[u64],
     allowance: u64,
     falling: &mut [u64],
-) -> Walked
+    placed: &mut [u8],
+    order: &mut [u64],
+) -> Search
     requires { ⌜ Sound (cols (now start) (now finish) (now writer) (now last) (now prev)) ⌝ }
     requires { ⌜ length (now start) ≤ largestCount ⌝ }
     requires { ⌜ length (now writer) ≤ length (now falling) ⌝ }
-    ensures { λ r. ⌜ Searched (cols (now (start .entry)) (now (finish .entry)) (now (writer .entry)) (now (last .entry)) (now (prev .entry))) allowance (λ H. walked (lbt H)) (findingIn r) ⌝ }
+    requires { ⌜ length (now start) ≤ length (now placed) ⌝ }
+    requires { ⌜ ((i : ℕ) → i < length (now placed) → isFree (now placed) i ≡ true) ⌝ }
+    requires { ⌜ length (now start) ≤ length (now order) ⌝ }
+    ensures { λ r. ⌜ Searched (cols (now (start .entry)) (now (finish .entry)) (now (writer .entry)) (now (last .entry)) (now (prev .entry))) allowance (λ H. walked (lbt H)) (now (order .exit)) r ⌝ }
 {
-    let m = columns::falls(finish, writer, falling);
-    lbt::search(start, finish, writer, last, prev, &falling[..m], allowance)
+    // The order is written later, and has the room for the keys until then.
+    let m = columns::falls(finish, writer, order, falling);
+    lbt::search(
+        start,
+        finish,
+        writer,
+        last,
+        prev,
+        &falling[..m],
+        allowance,
+        placed,
+        order,
+    )
 }
 
-// LBT.
+// LBT for few operations.
+fn walk_few(
+    start: &[u64],
+    finish: &[u64],
+    writer: &[u64],
+    last: &[u64],
+    prev: &[u64],
+    allowance: u64,
+    order: &mut [u64],
+) -> Search
+    requires { ⌜ Sound (cols (now start) (now finish) (now writer) (now last) (now prev)) ⌝ }
+    requires { ⌜ length (now start) ≤ 32 ⌝ }
+    requires { ⌜ length (now start) ≤ length (now order) ⌝ }
+    ensures { λ r. ⌜ Searched (cols (now (start .entry)) (now (finish .entry)) (now (writer .entry)) (now (last .entry)) (now (prev .entry))) allowance (λ H. walked (lbt H)) (now (order .exit)) r ⌝ }
+{
+    let mut falling = [0u64; FEW];
+    let mut placed = [0u8; FEW];
+    walk_with(
+        start,
+        finish,
+        writer,
+        last,
+        prev,
+        allowance,
+        &mut falling,
+        &mut placed,
+        order,
+    )
+}
+
+// The same for as many operations as a table has.
+fn walk_many(
+    start: &[u64],
+    finish: &[u64],
+    writer: &[u64],
+    last: &[u64],
+    prev: &[u64],
+    allowance: u64,
+    order: &mut [u64],
+) -> Search
+    requires { ⌜ Sound (cols (now start) (now finish) (now writer) (now last) (now prev)) ⌝ }
+    requires { ⌜ length (now start) ≤ largestCount ⌝ }
+    requires { ⌜ length (now start) ≤ length (now order) ⌝ }
+    ensures { λ r. ⌜ Searched (cols (now (start .entry)) (now (finish .entry)) (now (writer .entry)) (now (last .entry)) (now (prev .entry))) allowance (λ H. walked (lbt H)) (now (order .exit)) r ⌝ }
+{
+    let mut falling = [0u64; Row::LARGEST_COUNT];
+    let mut placed = [0u8; Row::LARGEST_COUNT];
+    walk_with(
+        start,
+        finish,
+        writer,
+        last,
+        prev,
+        allowance,
+        &mut falling,
+        &mut placed,
+        order,
+    )
+}
+
+// LBT: whether the history is 2-atomic, with an order, in so many trials.
 pub fn walk(
     start: &[u64],
     finish: &[u64],
@@ -43,17 +120,17 @@ pub fn walk(
     last: &[u64],
     prev: &[u64],
     allowance: u64,
-) -> Walked
+    order: &mut [u64],
+) -> Search
     requires { ⌜ Sound (cols (now start) (now finish) (now writer) (now last) (now prev)) ⌝ }
     requires { ⌜ length (now start) ≤ largestCount ⌝ }
-    ensures { λ r. ⌜ Searched (cols (now (start .entry)) (now (finish .entry)) (now (writer .entry)) (now (last .entry)) (now (prev .entry))) allowance (λ H. walked (lbt H)) (findingIn r) ⌝ }
+    requires { ⌜ length (now start) ≤ length (now order) ⌝ }
+    ensures { λ r. ⌜ Searched (cols (now (start .entry)) (now (finish .entry)) (now (writer .entry)) (now (last .entry)) (now (prev .entry))) allowance (λ H. walked (lbt H)) (now (order .exit)) r ⌝ }
 {
-    if writer.len() <= FEW {
-        let mut few = [0u64; FEW];
-        return walk_with(start, finish, writer, last, prev, allowance, &mut few);
+    if start.len() <= FEW {
+        return walk_few(start, finish, writer, last, prev, allowance, order);
     }
-    let mut falling = [0u64; Row::LARGEST_COUNT];
-    walk_with(start, finish, writer, last, prev, allowance, &mut falling)
+    walk_many(start, finish, writer, last, prev, allowance, order)
 }
 
 // The answer to what was found, and the order's rows at the front of the list where it is fresh.
@@ -64,51 +141,32 @@ pub fn answer(
     allowance: u64,
     list: &mut [u64],
 ) -> Answer
-    requires { ⌜ Fits (findingOf (now order) found) (now list) ⌝ }
-    ensures { λ r. ⌜ Replied (now (rows .entry)) allowance (findingOf (now (order .entry)) found) (now (list .entry)) (outcome r (now (list .exit))) ⌝ }
+    requires { ⌜ Fits (now order) (now list) found ⌝ }
+    ensures { λ r. ⌜ Replied (now (rows .entry)) allowance (now (order .entry)) found (now (list .entry)) (outcome r (now (list .exit))) ⌝ }
 {
-    let kind = found.kind;
-    let trials = found.trials;
     let count = rows.len() as u64;
-    if kind == Search::STALE {
-        return Answer {
+    match found {
+        Search::Stale { trials } => Answer {
             code: Answer::STALE,
             row: 0,
             rows: count,
             trials,
-        };
-    }
-    if kind != Search::FRESH {
-        return Answer {
+        },
+        Search::Spent => Answer {
             code: Answer::SPENT,
             row: 0,
             rows: 0,
             trials: allowance,
-        };
+        },
+        Search::Fresh { from, to, trials } => {
+            let m = to - from;
+            columns::rows_at(rows, &order[from..to], &mut list[..m]);
+            Answer {
+                code: Answer::FRESH,
+                row: 0,
+                rows: count,
+                trials,
+            }
+        }
     }
-    let from = found.from;
-    let to = found.to;
-    let m = to - from;
-    columns::rows_at(rows, &order[from..to], &mut list[..m]);
-    Answer {
-        code: Answer::FRESH,
-        row: 0,
-        rows: count,
-        trials,
-    }
-}
-
-// The answer to what LBT found, in the walk's own order.
-pub fn answer_walk(found: Walked, rows: &[u64], allowance: u64, list: &mut [u64]) -> Answer
-    requires { ⌜ Fits (findingIn found) (now list) ⌝ }
-    ensures { λ r. ⌜ Replied (now (rows .entry)) allowance (findingIn found) (now (list .entry)) (outcome r (now (list .exit))) ⌝ }
-{
-    let end = Search {
-        from: found.from,
-        to: found.to,
-        trials: found.trials,
-        kind: found.kind,
-    };
-    let order = found.order;
-    answer(end, &order, rows, allowance, list)
 }

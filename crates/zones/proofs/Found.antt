@@ -5,7 +5,7 @@ use mathlib.Core.Path.{_≡_, refl, ap, sym, _∙_}
 use mathlib.Core.Bool.{true, false}
 use mathlib.Core.List.{List, [], _∷_, _++_, flatMap, append-nil, List·Memᴰ as In, List·Memᴰ·head as here, List·Memᴰ·tail as there}
 use native.Mathlib.Omega.{arith}
-use lib.ListN.{length, getD, take, drop, replicate, length-drop, length-replicate, getD-replicate, drop-of-length-le}
+use lib.ListN.{length, getD, take, drop, length-drop, drop-of-length-le}
 use lib.Seq.{take-all}
 use Rattle.lists.proofs.Images.{map-append, getD-in}
 use Rattle.history.specs.declared.Op.{Op}
@@ -15,19 +15,15 @@ use Rattle.positions.specs.Places.{upto, Once}
 use Rattle.positions.specs.Columns.{Cols, size, readOf, Sound, op, ops, Of}
 use Rattle.positions.proofs.Once.{pairs-once}
 use Rattle.positions.proofs.Places.{upto-length}
-use Rattle.placing.specs.declared.State.{State}
-use Rattle.placing.specs.States.{isFree, laid, stateOf, Ready}
-use Rattle.placing.specs.Searched.{Searched, is-stale, is-fresh}
+use Rattle.placing.specs.States.{State, isFree, laid, stateOf, Ready}
+use Rattle.placing.specs.declared.Search.the-variants.{Stale, Fresh}
+use Rattle.placing.specs.Searched.{between, Searched, is-stale, is-fresh}
 use Rattle.zones.specs.Zones.{Zoned, writesAt, byLow}
 use Rattle.zones.specs.Pass.{pass, nowhere, zonesBy}
 use Rattle.zones.specs.Lay.{clusterAt, Whole, Lays}
 use Rattle.zones.proofs.Zone.{cluster-at}
 use Rattle.zones.proofs.ByLow.{by-low-write, by-low-in, by-low-apart, by-low, write-of}
 use Rattle.zones.proofs.Decided.{decided}
-
--- no place is marked at the outset
-pub unmarked : (n i : ℕ) → i < length (replicate {A = ℕ} n 0) → isFree (replicate n 0) i ≡ true
-unmarked n i l = rw (getD-replicate {A = ℕ} n i 0 0 (omega (arith, l, length-replicate {A = ℕ} n 0)))
 
 -- the clusters of a list of writes
 pub clusters-at : {C : Cols} {H : List Op} (o : Of C H) (p : Sound C) (l : List ℕ) → ((w : ℕ) → In w l → In w (writesAt (C .writer))) →
@@ -41,15 +37,15 @@ clusters-at {C} {H} o p (w ∷ l) h =
     ∙ rw (p .shape .long) (sym (map-append (op H) (w ∷ upto (readOf (C .writer) w) (size C)) (flatMap (clusterAt (C .writer)) l))))
 
 -- a state's order, as an answer holds it
-pub whole-order : (s : State) → take (length (s .order) - s .at) (drop (s .at) (s .order)) ≡ laid s
+pub whole-order : (s : State) → between (s .order) (s .at) (length (s .order)) ≡ laid s
 whole-order s = take-all (length (s .order) - s .at) (laid s) (rw (length-drop) (omega arith))
 
 module _ (C : Cols) (p : Sound C) (h : size C ≤ 1024) (late : List ℕ) (g : Zoned C late) (L : List ℕ) (q : L ≡ byLow (C .finish) late (C .writer)) where
   pub search-stale : (list : List ℕ) → pass nowhere (zonesBy (C .finish) late L) ≡ false → (allowance : ℕ) →
-      Searched C allowance (λ H. untried (zones H)) (record { order = list; from = 0; to = 0; trials = 0; kind = 0 })
+      Searched C allowance (λ H. untried (zones H)) list (Stale 0)
   unfolding zones
   search-stale list e allowance =
-      is-stale refl (omega arith) (λ H o. let d : isOne H ≡ false = sym (decided o late g) ∙ (rw q at e) in rw d refl)
+      is-stale {t = 0} (omega arith) (λ H o. let d : isOne H ≡ false = sym (decided o late g) ∙ (rw q at e) in rw d refl)
 
   -- nothing is placed yet: no mark is set, and the order has all its places
   module _ (placed cells : List ℕ) (m : size C ≤ length placed) (f : (j : ℕ) → j < length placed → isFree placed j ≡ true) (z : size C ≤ length cells) where
@@ -84,10 +80,10 @@ module _ (C : Cols) (p : Sound C) (h : size C ≤ 1024) (late : List ℕ) (g : Z
             member m = rw q at m
 
     pub search-fresh : (t : State) → pass nowhere (zonesBy (C .finish) late L) ≡ true → Lays (C .writer) L s t → length (t .order) ≡ length cells → (allowance : ℕ) →
-        Searched C allowance (λ H. untried (zones H)) (record { order = t .order; from = t .at; to = length cells; trials = 0; kind = 1 })
+        Searched C allowance (λ H. untried (zones H)) (t .order) (Fresh (t .at) (length cells) 0)
     unfolding zones inOrder
     search-fresh t e k y allowance =
-        is-fresh refl (omega arith) (omega (arith, k .ready .high, y)) (omega (arith, y))
+        is-fresh {from = t .at} {to = length cells} {t = 0} (omega arith) (omega (arith, k .ready .high, y)) (omega (arith, y))
         (λ H o.
         let d : isOne H ≡ true = sym (decided o late g) ∙ (rw q at e) in
         rw d
@@ -95,7 +91,7 @@ module _ (C : Cols) (p : Sound C) (h : size C ≤ 1024) (late : List ℕ) (g : Z
         (ap (flatMap (cluster H)) (sym (by-low o late g))
         ∙ ap (λ (l : List ℕ). flatMap (cluster H) (ops H l)) (sym q)
         ∙ clusters-at o p L (λ w m. by-low-in (C .finish) late (C .writer) (rw q at m))
-        ∙ ap (ops H) (sym (ap (λ n. take (n - t .at) (drop (t .at) (t .order))) (sym y) ∙ whole-order t ∙ all-laid)))))
+        ∙ ap (ops H) (sym (ap (between (t .order) (t .at)) (sym y) ∙ whole-order t ∙ all-laid)))))
       where
         all-laid : laid t ≡ flatMap (clusterAt (C .writer)) L
         all-laid = k .order ∙ rw (drop-of-length-le cells {i = length cells} (omega arith)) (append-nil _)

@@ -13,8 +13,8 @@ use Rattle.lists.proofs.Tests.{both}
 use Rattle.positions.specs.Places.{upto, and, Once}
 use Rattle.positions.specs.Columns.{mine, isRead, readOf}
 use Rattle.positions.proofs.Places.{below, upto-ext, upto-stop, upto-parts, upto-some, no-cond, cond-assoc}
-use Rattle.placing.specs.declared.State.{State}
-use Rattle.placing.specs.States.{isFree, laid, Ready, Whose}
+use Rattle.placing.specs.States.{State, isFree, laid, Ready, Whose}
+use Rattle.placing.proofs.Adding.{added-marks}
 use Rattle.placing.specs.Owned.{Mine, Owned}
 use Rattle.zones.specs.Lay.{clusterAt, Whole, Lays}
 
@@ -52,8 +52,8 @@ module _ (writer : List ℕ) (w : ℕ) (s : State) (h : Ready (length writer) s)
       record {
         size = h .size;
         within = omega (arith, o .top, h .within);
-        marks = omega (arith, o .marks, h .marks);
-        high = omega (arith, o .cells, o .high, h .high);
+        marks = omega (arith, added-marks (o .added), h .marks);
+        high = omega (arith, o .added .cells, o .high, h .high);
         room =
             omega (
               arith,
@@ -61,7 +61,7 @@ module _ (writer : List ℕ) (w : ℕ) (s : State) (h : Ready (length writer) s)
               upto-parts P (mine writer w) (s .top),
               ap length stays,
               simp (length-append, length-drop) at (ap length (o .order)),
-              o .cells,
+              o .added .cells,
               h .high,
               h .room,
               o .high,
@@ -104,8 +104,8 @@ module _ (writer list : List ℕ) (s : State) where
         record {
           within = omega (arith, g .within);
           ready = own-ready writer w t (g .ready) lay-whose r o;
-          marks = o .marks ∙ g .marks;
-          cells = o .cells ∙ g .cells;
+          marks = added-marks (o .added) ∙ g .marks;
+          cells = o .added .cells ∙ g .cells;
           whole = record { inside = λ k l. g .whole .inside k (omega arith); write = λ k l. g .whole .write k (omega arith); free = free };
           order =
               let e : drop (i - 1) list ≡ w ∷ drop i list = drops in

@@ -7,8 +7,7 @@ use mathlib.Core.List.{List, _∷_, _++_, flatMap}
 use lib.ListN.{length, getD}
 use Rattle.positions.specs.Places.{upto}
 use Rattle.positions.specs.Columns.{readOf}
-use Rattle.placing.specs.declared.State.{State}
-use Rattle.placing.specs.States.{isFree, laid, Ready}
+use Rattle.placing.specs.States.{State, isFree, laid, Ready}
 
 -- a cluster by position
 abbrev pub clusterAt : List ℕ → ℕ → List ℕ

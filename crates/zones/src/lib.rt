@@ -12,7 +12,7 @@ ghost use Rattle.methods.specs.Mark.{untried};
 ghost use Rattle.positions.specs.Places.{Once};
 ghost use Rattle.positions.specs.Columns.{cols, Linked, Sound};
 ghost use Rattle.placing.specs.States.{isFree, stateOf, Ready};
-ghost use Rattle.placing.specs.Searched.{findingOf, Searched};
+ghost use Rattle.placing.specs.Searched.{Searched};
 ghost use Rattle.zones.specs.Zones.{lastBy, Ends, Lates, zoneBy, Zoned, Lows, writesAt, byLow, Inside};
 ghost use Rattle.zones.specs.Lay.{Whole, Lays};
 ghost use Rattle.zones.specs.Pass.{meets, newer, pass, nowhere, zonesBy};
@@ -212,24 +212,18 @@ fn decide(
     requires { ⌜ length (now start) ≤ length (now placed) ⌝ }
     requires { ⌜ ((i : ℕ) → i < length (now placed) → isFree (now placed) i ≡ true) ⌝ }
     requires { ⌜ length (now start) ≤ length (now order) ⌝ }
-    ensures { λ r. ⌜ ((allowance : ℕ) → Searched (cols (now (start .entry)) (now (finish .entry)) (now (writer .entry)) (now (last .entry)) (now (prev .entry))) allowance (λ H. untried (zones H)) (findingOf (now (order .exit)) r)) ⌝ }
+    ensures { λ r. ⌜ ((allowance : ℕ) → Searched (cols (now (start .entry)) (now (finish .entry)) (now (writer .entry)) (now (last .entry)) (now (prev .entry))) allowance (λ H. untried (zones H)) (now (order .exit)) r) ⌝ }
 {
     if one(finish, late, list) {
         let to = order.len();
         let from = lay(writer, last, prev, list, placed, order, to);
-        return Search {
+        return Search::Fresh {
             from,
             to,
             trials: 0,
-            kind: Search::FRESH,
         };
     }
-    Search {
-        from: 0,
-        to: 0,
-        trials: 0,
-        kind: Search::STALE,
-    }
+    Search::Stale { trials: 0 }
 }
 
 // The zone method, where `late` has a place for each operation, the other slices at least as many, and the marks are clean.
@@ -251,7 +245,7 @@ fn search_with(
     requires { ⌜ length (now start) ≤ length (now placed) ⌝ }
     requires { ⌜ ((i : ℕ) → i < length (now placed) → isFree (now placed) i ≡ true) ⌝ }
     requires { ⌜ length (now start) ≤ length (now order) ⌝ }
-    ensures { λ r. ⌜ ((allowance : ℕ) → Searched (cols (now (start .entry)) (now (finish .entry)) (now (writer .entry)) (now (last .entry)) (now (prev .entry))) allowance (λ H. untried (zones H)) (findingOf (now (order .exit)) r)) ⌝ }
+    ensures { λ r. ⌜ ((allowance : ℕ) → Searched (cols (now (start .entry)) (now (finish .entry)) (now (writer .entry)) (now (last .entry)) (now (prev .entry))) allowance (λ H. untried (zones H)) (now (order .exit)) r) ⌝ }
 {
     lates(start, writer, last, late);
     // The order is written later, and has the room for the low ends until then.
@@ -281,7 +275,7 @@ fn search_few(
     requires { ⌜ Sound (cols (now start) (now finish) (now writer) (now last) (now prev)) ⌝ }
     requires { ⌜ length (now start) ≤ 32 ⌝ }
     requires { ⌜ length (now start) ≤ length (now order) ⌝ }
-    ensures { λ r. ⌜ ((allowance : ℕ) → Searched (cols (now (start .entry)) (now (finish .entry)) (now (writer .entry)) (now (last .entry)) (now (prev .entry))) allowance (λ H. untried (zones H)) (findingOf (now (order .exit)) r)) ⌝ }
+    ensures { λ r. ⌜ ((allowance : ℕ) → Searched (cols (now (start .entry)) (now (finish .entry)) (now (writer .entry)) (now (last .entry)) (now (prev .entry))) allowance (λ H. untried (zones H)) (now (order .exit)) r) ⌝ }
 {
     let n = start.len();
     let mut late = [0u64; FEW];
@@ -312,7 +306,7 @@ fn search_many(
     requires { ⌜ Sound (cols (now start) (now finish) (now writer) (now last) (now prev)) ⌝ }
     requires { ⌜ length (now start) ≤ largestCount ⌝ }
     requires { ⌜ length (now start) ≤ length (now order) ⌝ }
-    ensures { λ r. ⌜ ((allowance : ℕ) → Searched (cols (now (start .entry)) (now (finish .entry)) (now (writer .entry)) (now (last .entry)) (now (prev .entry))) allowance (λ H. untried (zones H)) (findingOf (now (order .exit)) r)) ⌝ }
+    ensures { λ r. ⌜ ((allowance : ℕ) → Searched (cols (now (start .entry)) (now (finish .entry)) (now (writer .entry)) (now (last .entry)) (now (prev .entry))) allowance (λ H. untried (zones H)) (now (order .exit)) r) ⌝ }
 {
     let n = start.len();
     let mut late = [0u64; Row::LARGEST_COUNT];
@@ -343,7 +337,7 @@ pub fn search(
     requires { ⌜ Sound (cols (now start) (now finish) (now writer) (now last) (now prev)) ⌝ }
     requires { ⌜ length (now start) ≤ largestCount ⌝ }
     requires { ⌜ length (now start) ≤ length (now order) ⌝ }
-    ensures { λ r. ⌜ ((allowance : ℕ) → Searched (cols (now (start .entry)) (now (finish .entry)) (now (writer .entry)) (now (last .entry)) (now (prev .entry))) allowance (λ H. untried (zones H)) (findingOf (now (order .exit)) r)) ⌝ }
+    ensures { λ r. ⌜ ((allowance : ℕ) → Searched (cols (now (start .entry)) (now (finish .entry)) (now (writer .entry)) (now (last .entry)) (now (prev .entry))) allowance (λ H. untried (zones H)) (now (order .exit)) r) ⌝ }
 {
     if start.len() <= FEW {
         return search_few(start, finish, writer, last, prev, order);

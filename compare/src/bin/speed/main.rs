@@ -3,6 +3,7 @@
 
 mod logs;
 mod timing;
+mod trials;
 
 use std::hint::black_box;
 use std::time::Duration;
@@ -11,7 +12,7 @@ use compare::histories::{self, file, file_of, scramble, spread};
 use compare::random::Random;
 use compare::{library, mark};
 
-use timing::best;
+use timing::{best, Turn};
 
 const SIZES: [usize; 3] = [64, 256, 1024];
 
@@ -45,10 +46,11 @@ fn sixty(count: usize, random: &mut Random) -> Case {
     Case { bytes: file(&rows), registers: (1..=60).collect() }
 }
 
-const FAMILIES: [(&str, Maker); 8] = [
+const FAMILIES: [(&str, Maker); 9] = [
     ("1 quorum-like", |count, random| one(histories::quorum(count, random))),
     ("2 all concurrent", |count, random| one(histories::concurrent(count, random))),
-    ("3 epochs that fail late", |count, random| one(histories::late_failures(count, random))),
+    ("3a epochs that fail late", |count, random| one(histories::late_failures(count, random))),
+    ("3b epochs that fail at once", |count, random| one(histories::failures_at_once(count, random))),
     ("4 many chunks", |count, random| one(histories::chunks(count, random))),
     ("5a stale at the end", |count, random| one(histories::stale_at(true, count, random))),
     ("5b stale at the start", |count, random| one(histories::stale_at(false, count, random))),
@@ -58,6 +60,12 @@ const FAMILIES: [(&str, Maker); 8] = [
 
 type Mark = fn(&[u8], u64, u64) -> u64;
 
+/// The calls that are timed: the proved library's, plain Rust's and, where there is one, that of an earlier build.
+#[cfg(not(feature = "before"))]
+const MARKS: [Mark; 2] = [library::mark, mark];
+#[cfg(feature = "before")]
+const MARKS: [Mark; 3] = [library::mark, mark, library::mark_before];
+
 /// The codes of all the case's registers, added.
 fn turn(call: Mark, case: &Case, question: u64) -> u64 {
     case.registers.iter().map(|&register| call(black_box(&case.bytes), register, question)).sum()
@@ -65,7 +73,8 @@ fn turn(call: Mark, case: &Case, question: u64) -> u64 {
 
 fn main() {
     let least = Duration::from_millis(std::env::args().nth(1).map_or(2, |text| text.parse().expect("milliseconds")));
-    println!("{:<24} {:>5} {:>2} {:>5} {:>12} {:>12} {:>8}", "family", "rows", "q", "code", "ns valgrist", "ns plain", "ratio");
+    let before = if MARKS.len() > 2 { "   ns before    ratio" } else { "" };
+    println!("{:<27} {:>5} {:>2} {:>5} {:>12} {:>12} {:>8}{before}", "family", "rows", "q", "code", "ns valgrist", "ns plain", "ratio");
     let mut growth = Vec::new();
     let mut differences = 0;
     for (name, make) in FAMILIES {
@@ -74,20 +83,25 @@ fn main() {
             let mut found = Vec::new();
             for (case, size) in cases.iter().zip(SIZES) {
                 for &register in &case.registers {
-                    differences += u64::from(library::mark(&case.bytes, register, question) != mark(&case.bytes, register, question));
+                    let codes = MARKS.map(|call| call(&case.bytes, register, question));
+                    differences += u64::from(codes.iter().any(|&code| code != codes[0]));
                 }
-                let [ours, plain] = best([&|| turn(library::mark, case, question), &|| turn(mark, case, question)], least);
+                let turns = MARKS.map(|call| move || turn(call, case, question));
+                let times = best(turns.each_ref().map(|turn| turn as Turn), least);
                 let code = mark(&case.bytes, case.registers[0], question);
-                println!("{name:<24} {size:>5} {question:>2} {code:>5} {ours:>12.0} {plain:>12.0} {:>8.2}", ours / plain);
-                found.push([ours, plain]);
+                print!("{name:<27} {size:>5} {question:>2} {code:>5} {:>12.0} {:>12.0} {:>8.2}", times[0], times[1], times[0] / times[1]);
+                times[2..].iter().for_each(|before| print!(" {before:>11.0} {:>8.2}", before / times[1]));
+                println!();
+                found.push(times);
             }
             growth.push((name, question, found[2][0] / found[1][0], found[2][1] / found[1][1]));
         }
     }
-    println!("\ngrowth of the time from 256 to 1,024 rows\n{:<24} {:>2} {:>9} {:>9}", "family", "q", "valgrist", "plain");
+    println!("\ngrowth of the time from 256 to 1,024 rows\n{:<27} {:>2} {:>9} {:>9}", "family", "q", "valgrist", "plain");
     for (name, question, ours, plain) in growth {
-        println!("{name:<24} {question:>2} {ours:>9.1} {plain:>9.1}");
+        println!("{name:<27} {question:>2} {ours:>9.1} {plain:>9.1}");
     }
+    differences += trials::compare(least);
     differences += logs::compare(least);
     println!("\ndifferent results: {differences}");
     if differences > 0 {

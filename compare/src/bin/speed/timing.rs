@@ -1,4 +1,4 @@
-//! The times of two calls, taken in turn.
+//! The times of calls, taken in turn.
 
 use std::hint::black_box;
 use std::time::{Duration, Instant};
@@ -25,13 +25,13 @@ fn turns(turn: Turn, least: Duration) -> u32 {
     turns
 }
 
-/// The best nanoseconds of a turn, of both.
-pub fn best(both: [Turn; 2], least: Duration) -> [f64; 2] {
-    let counts = both.map(|turn| turns(turn, least));
-    let mut best = [f64::INFINITY; 2];
+/// The best nanoseconds of a turn, of each.
+pub fn best<const N: usize>(each: [Turn; N], least: Duration) -> [f64; N] {
+    let counts = each.map(|turn| turns(turn, least));
+    let mut best = [f64::INFINITY; N];
     for _ in 0..BATCHES {
-        for which in 0..2 {
-            let taken = batch(both[which], counts[which]).as_nanos() as f64 / f64::from(counts[which]);
+        for which in 0..N {
+            let taken = batch(each[which], counts[which]).as_nanos() as f64 / f64::from(counts[which]);
             best[which] = best[which].min(taken);
         }
     }

@@ -6,7 +6,8 @@ use lib.ListN.{length}
 use borrow.Author.Tests.{not-true, not-false}
 use Rattle.positions.specs.Columns.{cols}
 use Rattle.placing.specs.States.{stateOf}
-use Rattle.choice.proofs.Sequence.{Placing, place-none, place-end, place-fails, place-clash, place-on}
+use Rattle.placing.proofs.Adding.{added-marks, added-shrinks}
+use Rattle.choice.proofs.Sequence.{Placing, place-none, place-end, place-shrinks, place-fails, place-clash, place-on}
 use Rattle.choice.proofs.viable.Statement.{statement}
 use Rattle.choice.proofs.viable.Tie as tie
 
@@ -43,11 +44,11 @@ step-requires c κs =
 
 -- src/lib.rt:74:13
 same-length : tie.Need-same-length Inv-loop μ-loop
-same-length c = c .before .before .before .before .before .step .kept .1 .1 .1 .1 .1 .0 ∙ c .before .before .before .before .before .before .before .before .before .before .loop .inv .marks
+same-length c = c .before .before .before .before .before .step .kept .1 .1 .1 .1 .1 .0 ∙ added-marks (c .before .before .before .before .before .before .before .before .before .before .loop .inv .added)
 
 -- src/lib.rt:74:13
 same-length-2 : tie.Need-same-length-2 Inv-loop μ-loop
-same-length-2 c = c .before .before .before .before .before .step .kept .1 .1 .1 .1 .1 .1 .0 ∙ c .before .before .before .before .before .before .before .before .before .before .loop .inv .cells
+same-length-2 c = c .before .before .before .before .before .step .kept .1 .1 .1 .1 .1 .1 .0 ∙ c .before .before .before .before .before .before .before .before .before .before .loop .inv .added .cells
 
 -- src/lib.rt:74:13
 returns : tie.Need-returns Inv-loop μ-loop
@@ -55,7 +56,7 @@ returns c =
     let q = c .before .before .before .before .before .before .before .before .before .before .before .before .before .before .before .before .before .before .before .pre in
     let g = c .before .before .before .before .before .before .before .before .before .before .loop .inv in
     let e = c .before .before .before .before .before .step .ensures in
-    (place-fails _ (q .0) _ _ _ _ (omega arith) g _ (e .0) (c .if1 .taken) _ _ (c .if1 .taken), λ j l y. g .shrinks j l (e .1 j l y))
+    (place-fails _ (q .0) _ _ _ _ (omega arith) g _ e (c .if1 .taken) _ _ (c .if1 .taken), place-shrinks _ (q .0) _ _ _ _ (omega arith) g _ e)
 
 -- src/lib.rt:78:13
 follows-requires : tie.Need-follows-requires Inv-loop μ-loop
@@ -69,11 +70,11 @@ ended-requires c κs = search needs
 
 -- src/lib.rt:79:13
 same-length-3 : tie.Need-same-length-3 Inv-loop μ-loop
-same-length-3 c = c .before .before .before .before .before .before .before .before .step .kept .1 .1 .1 .1 .1 .0 ∙ c .before .before .before .before .before .before .before .before .before .before .before .before .before .loop .inv .marks
+same-length-3 c = c .before .before .before .before .before .before .before .before .step .kept .1 .1 .1 .1 .1 .0 ∙ added-marks (c .before .before .before .before .before .before .before .before .before .before .before .before .before .loop .inv .added)
 
 -- src/lib.rt:79:13
 same-length-4 : tie.Need-same-length-4 Inv-loop μ-loop
-same-length-4 c = c .before .before .before .before .before .before .before .before .step .kept .1 .1 .1 .1 .1 .1 .0 ∙ c .before .before .before .before .before .before .before .before .before .before .before .before .before .loop .inv .cells
+same-length-4 c = c .before .before .before .before .before .before .before .before .step .kept .1 .1 .1 .1 .1 .1 .0 ∙ c .before .before .before .before .before .before .before .before .before .before .before .before .before .loop .inv .added .cells
 
 -- src/lib.rt:79:13
 returns-2 : tie.Need-returns-2 Inv-loop μ-loop
@@ -81,7 +82,7 @@ returns-2 c =
     let q = c .before .before .before .before .before .before .before .before .before .before .before .before .before .before .before .before .before .before .before .before .before .before .pre in
     let g = c .before .before .before .before .before .before .before .before .before .before .before .before .before .loop .inv in
     let e = c .before .before .before .before .before .before .before .before .step .ensures in
-    (place-clash _ (q .0) _ _ _ _ (omega arith) g _ (e .0) (c .before .before .before .if1 .left) (sym (c .before .before .follows .ensures) ∙ not-true _ (c .before .if2 .taken)) _ _ (c .ended .ensures .1), λ j l y. g .shrinks j l (e .1 j l y))
+    (place-clash _ (q .0) _ _ _ _ (omega arith) g _ e (c .before .before .before .if1 .left) (sym (c .before .before .follows .ensures) ∙ not-true _ (c .before .if2 .taken)) _ _ (c .ended .ensures .1), place-shrinks _ (q .0) _ _ _ _ (omega arith) g _ e)
 
 -- src/lib.rt:69:5
 loop-less : tie.Need-loop-less Inv-loop μ-loop
@@ -93,7 +94,7 @@ loop-again c =
     let q = c .before .before .before .before .before .before .before .before .before .before .before .before .before .before .before .before .before .before .before .before .before .pre in
     let g = c .before .before .before .before .before .before .before .before .before .before .before .before .loop .inv in
     let e = c .before .before .before .before .before .before .before .step .ensures in
-    place-on _ (q .0) _ _ _ _ (omega arith) g (q .1 .1) _ (e .0) (c .before .before .if1 .left) (sym (c .before .follows .ensures) ∙ not-false _ (c .if2 .left))
+    place-on _ (q .0) _ _ _ _ (omega arith) g (q .1 .1) _ e (c .before .before .if1 .left) (sym (c .before .follows .ensures) ∙ not-false _ (c .if2 .left))
 
 -- src/lib.rt:82:5
 ended-requires-2 : tie.Need-ended-requires-2 Inv-loop μ-loop
@@ -101,18 +102,18 @@ ended-requires-2 c κs = search needs
 
 -- src/lib.rt:48:1
 same-length-5 : tie.Need-same-length-5 Inv-loop μ-loop
-same-length-5 c = c .before .before .loop .inv .marks
+same-length-5 c = added-marks (c .before .before .loop .inv .added)
 
 -- src/lib.rt:48:1
 same-length-6 : tie.Need-same-length-6 Inv-loop μ-loop
-same-length-6 c = c .before .before .loop .inv .cells
+same-length-6 c = c .before .before .loop .inv .added .cells
 
 -- src/lib.rt:48:1
 returns-3 : tie.Need-returns-3 Inv-loop μ-loop
 returns-3 c =
     let q = c .before .before .before .before .before .before .before .before .before .before .before .pre in
     let g = c .before .before .loop .inv in
-    (place-end _ (q .0) _ _ _ _ g (omega arith) _ (c .ended2 .ensures .1) (c .ended2 .ensures .0), g .shrinks)
+    (place-end _ (q .0) _ _ _ _ g (omega arith) _ (c .ended2 .ensures .1) (c .ended2 .ensures .0), added-shrinks (g .added) _)
 
 pub viable-spec : {M : Type 1} → statement M
 viable-spec =

@@ -2,7 +2,7 @@
 use mathlib.Core.Path.{sym}
 use native.Mathlib.Omega.{arith}
 use lib.Seq.{length-take-le}
-use Rattle.zones.proofs.Found.{unmarked}
+use Rattle.placing.proofs.Begun.{unmarked}
 use Rattle.joining.proofs.Joining.{shut-all}
 use borrow.Author.Needs.{needs}
 use Rattle.fzf.proofs.search_few.Statement.{statement}

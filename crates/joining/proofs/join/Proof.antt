@@ -39,35 +39,32 @@ skip-requires c κs =
 over-requires : tie.Need-over-requires Inv-loop μ-loop
 over-requires c κs = search needs
 
-ended-requires : tie.Need-ended-requires Inv-loop μ-loop
-ended-requires c κs = search needs
-
 same-length : tie.Need-same-length Inv-loop μ-loop
-same-length c = c .before .before .before .before .loop .inv .3
+same-length c = c .before .before .before .loop .inv .3
 
 same-length-2 : tie.Need-same-length-2 Inv-loop μ-loop
-same-length-2 c = c .before .before .before .before .loop .inv .4
+same-length-2 c = c .before .before .before .loop .inv .4
 
 same-length-3 : tie.Need-same-length-3 Inv-loop μ-loop
-same-length-3 c = c .before .before .before .before .loop .inv .5
+same-length-3 c = c .before .before .before .loop .inv .5
 
 same-length-4 : tie.Need-same-length-4 Inv-loop μ-loop
-same-length-4 c = c .before .before .before .before .loop .inv .6
+same-length-4 c = c .before .before .before .loop .inv .6
 
 same-length-5 : tie.Need-same-length-5 Inv-loop μ-loop
-same-length-5 c = c .before .before .before .before .loop .inv .7
+same-length-5 c = c .before .before .before .loop .inv .7
 
 returns : tie.Need-returns Inv-loop μ-loop
 returns c =
-    let q = c .before .before .before .before .before .before .before .before .before .before .before .before .before .before .before .before .before .before .before .pre in
-    let v = c .before .before .before .before .before .before .before .before .before .before .before .before .before .before .before .before .before .before .before .args in
+    let q = c .before .before .before .before .before .before .before .before .before .before .before .before .before .before .before .before .before .before .pre in
+    let v = c .before .before .before .before .before .before .before .before .before .before .before .before .before .before .before .before .before .before .args in
     let x = q .1 .1 .1 .1 .0 in
     let y = q .1 .1 .1 .1 .1 .0 in
     let z = q .1 .1 .1 .0 in
-    let s = rw (x, y) at (c .before .before .before .skip .ensures (v .finish .now) (v .late .now) (v .forwards .now) (q .1 .1 .1 .1 .1 .1 .1 .0)) in
-    let k = join-skip _ _ z _ _ _ _ (c .before .before .before .before .loop .inv .0) _ s in
-    let o = rw (x, y) at (over-true _ _ _ _ (sym (c .before .before .over .ensures) ∙ c .before .if1 .taken)) in
-    rw (c .ended .ensures) (join-end _ _ z _ _ _ _ k (o .0) (o .1))
+    let s = rw (x, y) at (c .before .before .skip .ensures (v .finish .now) (v .late .now) (v .forwards .now) (q .1 .1 .1 .1 .1 .1 .1 .0)) in
+    let k = join-skip _ _ z _ _ _ _ (c .before .before .before .loop .inv .0) _ s in
+    let o = rw (x, y) at (over-true _ _ _ _ (sym (c .before .over .ensures) ∙ c .if1 .taken)) in
+    join-end _ _ z _ _ _ _ k (o .0) (o .1)
 
 item-requires : tie.Need-item-requires Inv-loop μ-loop
 item-requires c κs =
@@ -81,34 +78,31 @@ item-requires c κs =
     let i = c .before .before .before .before .before .before .before .loop .inv in
     (q .0, (q .1 .0, (z, (x, (y, (rw (x, y) (join-waits _ _ z _ _ _ _ (i .0) _ s o), (rw (x, y) (i .1), i .2)))))))
 
-ended-requires-2 : tie.Need-ended-requires-2 Inv-loop μ-loop
-ended-requires-2 c κs = search needs
-
 same-length-6 : tie.Need-same-length-6 Inv-loop μ-loop
-same-length-6 c = c .before .before .before .before .before .before .before .before .before .before .item .kept .1 .1 .1 .1 .1 .1 .1 .1 .1 .1 .1 .0 ∙ c .before .before .before .before .before .before .before .before .before .before .before .before .before .before .before .before .before .before .loop .inv .3
+same-length-6 c = c .before .before .before .before .before .before .before .before .before .item .kept .1 .1 .1 .1 .1 .1 .1 .1 .1 .1 .1 .0 ∙ c .before .before .before .before .before .before .before .before .before .before .before .before .before .before .before .before .before .loop .inv .3
 
 same-length-7 : tie.Need-same-length-7 Inv-loop μ-loop
-same-length-7 c = c .before .before .before .before .before .before .before .before .before .before .item .kept .1 .1 .1 .1 .1 .1 .1 .1 .1 .1 .1 .1 .0 ∙ c .before .before .before .before .before .before .before .before .before .before .before .before .before .before .before .before .before .before .loop .inv .4
+same-length-7 c = c .before .before .before .before .before .before .before .before .before .item .kept .1 .1 .1 .1 .1 .1 .1 .1 .1 .1 .1 .1 .0 ∙ c .before .before .before .before .before .before .before .before .before .before .before .before .before .before .before .before .before .loop .inv .4
 
 same-length-8 : tie.Need-same-length-8 Inv-loop μ-loop
-same-length-8 c = c .before .before .before .before .before .before .before .before .before .before .item .kept .1 .1 .1 .1 .1 .1 .1 .1 .1 .1 .1 .1 .1 .0 ∙ c .before .before .before .before .before .before .before .before .before .before .before .before .before .before .before .before .before .before .loop .inv .5
+same-length-8 c = c .before .before .before .before .before .before .before .before .before .item .kept .1 .1 .1 .1 .1 .1 .1 .1 .1 .1 .1 .1 .1 .0 ∙ c .before .before .before .before .before .before .before .before .before .before .before .before .before .before .before .before .before .loop .inv .5
 
 same-length-9 : tie.Need-same-length-9 Inv-loop μ-loop
-same-length-9 c = c .before .before .before .before .before .before .before .before .before .before .item .kept .1 .1 .1 .1 .1 .1 .1 .1 .1 .1 .1 .1 .1 .1 .0 ∙ c .before .before .before .before .before .before .before .before .before .before .before .before .before .before .before .before .before .before .loop .inv .6
+same-length-9 c = c .before .before .before .before .before .before .before .before .before .item .kept .1 .1 .1 .1 .1 .1 .1 .1 .1 .1 .1 .1 .1 .1 .0 ∙ c .before .before .before .before .before .before .before .before .before .before .before .before .before .before .before .before .before .loop .inv .6
 
 same-length-10 : tie.Need-same-length-10 Inv-loop μ-loop
-same-length-10 c = c .before .before .before .before .before .before .before .before .before .before .before .before .before .before .before .before .before .before .loop .inv .7
+same-length-10 c = c .before .before .before .before .before .before .before .before .before .before .before .before .before .before .before .before .before .loop .inv .7
 
 returns-2 : tie.Need-returns-2 Inv-loop μ-loop
 returns-2 c =
-    let q = c .before .before .before .before .before .before .before .before .before .before .before .before .before .before .before .before .before .before .before .before .before .before .before .before .before .before .before .before .before .before .before .before .before .pre in
-    let v = c .before .before .before .before .before .before .before .before .before .before .before .before .before .before .before .before .before .before .before .before .before .before .before .before .before .before .before .before .before .before .before .before .before .args in
+    let q = c .before .before .before .before .before .before .before .before .before .before .before .before .before .before .before .before .before .before .before .before .before .before .before .before .before .before .before .before .before .before .before .before .pre in
+    let v = c .before .before .before .before .before .before .before .before .before .before .before .before .before .before .before .before .before .before .before .before .before .before .before .before .before .before .before .before .before .before .before .before .args in
     let x = q .1 .1 .1 .1 .0 in
     let y = q .1 .1 .1 .1 .1 .0 in
     let z = q .1 .1 .1 .0 in
-    let s = rw (x, y) at (c .before .before .before .before .before .before .before .before .before .before .before .before .before .before .before .before .before .skip .ensures (v .finish .now) (v .late .now) (v .forwards .now) (q .1 .1 .1 .1 .1 .1 .1 .0)) in
-    let k = join-skip _ _ z _ _ _ _ (c .before .before .before .before .before .before .before .before .before .before .before .before .before .before .before .before .before .before .loop .inv .0) _ s in
-    rw (c .ended2 .ensures) (join-fails _ _ z _ _ _ _ k _ _ (rw (x, y) at (c .before .before .before .before .before .before .before .before .before .before .item .ensures .0)) (c .before .if2 .taken) _)
+    let s = rw (x, y) at (c .before .before .before .before .before .before .before .before .before .before .before .before .before .before .before .before .skip .ensures (v .finish .now) (v .late .now) (v .forwards .now) (q .1 .1 .1 .1 .1 .1 .1 .0)) in
+    let k = join-skip _ _ z _ _ _ _ (c .before .before .before .before .before .before .before .before .before .before .before .before .before .before .before .before .before .loop .inv .0) _ s in
+    join-fails _ _ z _ _ _ _ k _ _ (rw (x, y) at (c .before .before .before .before .before .before .before .before .before .item .ensures .0)) (c .if2 .taken) _
 
 mul-append : tie.Need-mul-append Inv-loop μ-loop
 mul-append c =
@@ -189,7 +183,6 @@ join-spec =
     loop-holds
     skip-requires
     over-requires
-    ended-requires
     same-length
     same-length-2
     same-length-3
@@ -197,7 +190,6 @@ join-spec =
     same-length-5
     returns
     item-requires
-    ended-requires-2
     same-length-6
     same-length-7
     same-length-8

@@ -21,8 +21,8 @@ mul-w c = omega arith
 shared-slice-read-w : tie.Need-shared-slice-read-w Inv-loop μ-loop
 shared-slice-read-w c = omega arith
 
-element-copy-out-if1 : tie.Need-element-copy-out-if1 Inv-loop μ-loop
-element-copy-out-if1 c = c .before .before .before .pre .0 _ (omega arith)
+shared-slice-read-if1 : tie.Need-shared-slice-read-if1 Inv-loop μ-loop
+shared-slice-read-if1 c = c .before .before .before .before .pre .0 _ (omega arith)
 
 returns : tie.Need-returns Inv-loop μ-loop
 returns c = c .before .before .before .before .loop .inv
@@ -48,7 +48,7 @@ first-spec =
     loop-holds
     mul-w
     shared-slice-read-w
-    element-copy-out-if1
+    shared-slice-read-if1
     returns
     add-i
     loop-less

@@ -27,8 +27,8 @@ mul-v c = omega arith
 shared-slice-read-v : tie.Need-shared-slice-read-v Inv-loop μ-loop
 shared-slice-read-v c = omega arith
 
-element-copy-out-if1 : tie.Need-element-copy-out-if1 Inv-loop μ-loop
-element-copy-out-if1 c = omega arith
+shared-slice-read-if1 : tie.Need-shared-slice-read-if1 Inv-loop μ-loop
+shared-slice-read-if1 c = omega arith
 
 add-result : tie.Need-add-result Inv-loop μ-loop
 add-result c = omega arith
@@ -73,7 +73,7 @@ newest-spec =
     sub-i
     mul-v
     shared-slice-read-v
-    element-copy-out-if1
+    shared-slice-read-if1
     add-result
     returns
     loop-less

@@ -3,7 +3,8 @@ use mathlib.Core.Path.{refl, sym, _∙_}
 use native.Mathlib.Omega.{arith}
 use Rattle.placing.specs.Scanned.{broke}
 use Rattle.placing.specs.States.{stateOf}
-use Rattle.placing.proofs.Passing.{Passing, scan-shrinks, scan-room, scan-none, scan-skip, scan-clash, scan-push, scan-stop, scan-bottom}
+use Rattle.placing.proofs.Adding.{added-top}
+use Rattle.placing.proofs.Passing.{Passing, scan-room, scan-none, scan-skip, scan-clash, scan-push, scan-stop, scan-bottom}
 use Rattle.placing.proofs.scan.Statement.{statement}
 use Rattle.placing.proofs.scan.Tie as tie
 
@@ -41,7 +42,7 @@ same-length-2 c = omega arith
 returns : tie.Need-returns Inv-loop μ-loop
 returns c =
     let l = c .before .before .before .loop in
-    (scan-stop _ _ _ _ _ _ _ (l .k - 1) (c .before .before .before .before .before .before .before .before .pre .0) (c .before .before .before .before .before .before .before .before .pre .1) (omega arith) (l .inv) (omega arith), scan-shrinks _ _ _ _ _ _ _ (l .inv) _)
+    scan-stop _ _ _ _ _ _ _ (l .k - 1) (c .before .before .before .before .before .before .before .before .pre .0) (c .before .before .before .before .before .before .before .before .pre .1) (omega arith) (l .inv) (omega arith)
 
 -- src/lib.rt:104:12
 slice-read-if2 : tie.Need-slice-read-if2 Inv-loop μ-loop
@@ -71,7 +72,7 @@ same-length-4 c = omega arith
 returns-2 : tie.Need-returns-2 Inv-loop μ-loop
 returns-2 c =
     let l = c .before .before .before .before .before .before .before .before .loop in
-    (broke refl (scan-clash _ _ _ _ _ _ _ (l .k - 1) (omega arith) (l .inv) (omega arith) (omega arith) (sym (c .before .clash .ensures) ∙ c .if3 .taken)), scan-shrinks _ _ _ _ _ _ _ (l .inv) _)
+    broke refl (added-top _ _ (l .inv .added)) (scan-clash _ _ _ _ _ _ _ (l .k - 1) (omega arith) (l .inv) (omega arith) (omega arith) (sym (c .before .clash .ensures) ∙ c .if3 .taken))
 
 -- src/lib.rt:109:13
 ask-requires : tie.Need-ask-requires Inv-loop μ-loop
@@ -127,7 +128,7 @@ same-length-6 c = omega arith
 
 -- src/lib.rt:80:1
 returns-3 : tie.Need-returns-3 Inv-loop μ-loop
-returns-3 c = (scan-bottom _ _ _ _ _ _ _ (c .before .before .before .before .before .before .pre .1) (omega arith) (c .before .loop .inv), scan-shrinks _ _ _ _ _ _ _ (c .before .loop .inv) _)
+returns-3 c = scan-bottom _ _ _ _ _ _ _ (c .before .before .before .before .before .before .pre .1) (omega arith) (c .before .loop .inv)
 
 pub scan-spec : {M : Type 1} → statement M
 scan-spec =

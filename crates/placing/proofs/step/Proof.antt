@@ -1,4 +1,4 @@
-use Rattle.placing.proofs.Stepping.{step-fails, after-ready, after-whose, step-goes, own-shrinks}
+use Rattle.placing.proofs.Stepping.{step-fails, after-ready, after-whose, step-goes}
 use borrow.Author.Needs.{needs}
 use Rattle.placing.proofs.step.Statement.{statement}
 use Rattle.placing.proofs.step.Tie as tie
@@ -28,13 +28,13 @@ returns : tie.Need-returns
 returns c =
     let q = c .before .before .before .before .before .before .before .before .before .before .before .before .before .before .before .before .pre in
     let e = c .before .before .before .before .before .scan .ensures in
-    (step-fails _ (q .0) _ _ (q .1 .0) (q .1 .1) _ (e .0) (c .if1 .taken), e .1)
+    step-fails _ (q .0) _ _ (q .1 .0) (q .1 .1) _ e (c .if1 .taken)
 
 -- src/lib.rt:174:9
 own-requires : tie.Need-own-requires
 own-requires c κs =
     let q = c .before .before .before .before .before .before .before .before .before .before .before .before .before .before .before .before .before .before .pre in
-    let e = c .before .before .before .before .before .before .before .scan .ensures .0 in
+    let e = c .before .before .before .before .before .before .before .scan .ensures in
     let f = c .before .before .if1 .left in
     (q .0 .links, (after-ready _ (q .0) _ _ (q .1 .0) (q .1 .1) _ e f, after-whose _ (q .0) _ _ (q .1 .0) (q .1 .1) _ e f))
 
@@ -53,7 +53,7 @@ returns-2 c =
     let e = c .before .before .before .before .before .before .before .before .before .before .before .before .scan .ensures in
     let f = c .before .before .before .before .before .before .before .if1 .left in
     let o = c .before .before .before .before .own .ensures in
-    (step-goes _ (q .0) _ _ (q .1 .0) (q .1 .1) _ (e .0) f _ (o _), λ j l h. e .1 j l (own-shrinks _ (q .0) _ _ (q .1 .0) (q .1 .1) (o 0) j l h))
+    step-goes _ (q .0) _ _ (q .1 .0) (q .1 .1) _ e f _ (o _)
 
 pub step-spec : {M : Type 1} → statement M
 step-spec =

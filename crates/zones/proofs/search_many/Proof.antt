@@ -2,7 +2,7 @@
 use mathlib.Core.Path.{sym}
 use native.Mathlib.Omega.{arith}
 use lib.Seq.{length-take-le}
-use Rattle.zones.proofs.Found.{unmarked}
+use Rattle.placing.proofs.Begun.{unmarked}
 use borrow.Author.Needs.{needs}
 use Rattle.zones.proofs.search_many.Statement.{statement}
 use Rattle.zones.proofs.search_many.Tie as tie

@@ -2,8 +2,8 @@
 use native.Mathlib.Omega.{arith}
 use Rattle.columns.proofs.Sorted.{gathered-part, falls-sorted}
 use borrow.Author.Needs.{needs}
-use Rattle.columns.proofs.falls_with.Statement.{statement}
-use Rattle.columns.proofs.falls_with.Tie as tie
+use Rattle.columns.proofs.falls.Statement.{statement}
+use Rattle.columns.proofs.falls.Tie as tie
 
 choose-requires : tie.Need-choose-requires
 choose-requires c κs = search needs
@@ -26,8 +26,8 @@ same-length-2 c = search needs
 returns : tie.Need-returns
 returns c = falls-sorted _ _ (omega arith) (c .before .before .before .before .before .before .before .before .before .choose .ensures) _ (c .before .before .sort-by .ensures)
 
-pub falls-with-spec : {M : Type 1} → statement M
-falls-with-spec =
+pub falls-spec : {M : Type 1} → statement M
+falls-spec =
     tie.close
     (tie.spec
     choose-requires
