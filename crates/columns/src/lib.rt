@@ -39,8 +39,11 @@ fn gather(table: &[u64], register: u64, keys: &mut [u64], rows: &mut [u64]) -> u
     m
 }
 
-// So many places are few: a short array does for their keys, which is sooner cleared than the long one.
-const FEW: usize = 64;
+// So many rows are few: a short array does for their keys, which is sooner cleared than a long one.
+const FEW: usize = 32;
+
+// Up to so many, an array of a middle size does.
+const SOME: usize = 256;
 
 // The rows of the register by rising start, at the front of the slice, with a place for the start of each row of the table; their number.
 fn rows_with(table: &[u64], register: u64, keys: &mut [u64], rows: &mut [u64]) -> usize
@@ -63,6 +66,10 @@ pub fn rows_by_start(table: &[u64], register: u64, rows: &mut [u64]) -> usize
     if table.len() / Row::COLUMNS <= FEW {
         let mut few = [0u64; FEW];
         return rows_with(table, register, &mut few, rows);
+    }
+    if table.len() / Row::COLUMNS <= SOME {
+        let mut some = [0u64; SOME];
+        return rows_with(table, register, &mut some, rows);
     }
     let mut keys = [0u64; Row::LARGEST_COUNT];
     rows_with(table, register, &mut keys, rows)

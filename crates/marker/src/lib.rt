@@ -29,6 +29,9 @@ const FZF: u64 = 3;
 // So many rows are few: short arrays do for them, which are sooner cleared than the long ones.
 const FEW: usize = 32;
 
+// Up to so many, arrays of a middle size do.
+const SOME: usize = 256;
+
 // Whether there is no such question.
 fn unasked(question: u64) -> bool
     ensures { λ r. ⌜ r ≡ noQuestion question ⌝ }
@@ -148,6 +151,36 @@ fn mark_few(table: &[u64], rows: &[u64], question: u64, allowance: u64, list: &m
     )
 }
 
+// The same for up to 256 rows.
+fn mark_some(table: &[u64], rows: &[u64], question: u64, allowance: u64, list: &mut [u64]) -> Answer
+    requires { ⌜ ((register : ℕ) × Listed (now table) register (now rows)) ⌝ }
+    requires { ⌜ length (now rows) ≤ 256 ⌝ }
+    requires { ⌜ length (now rows) ≤ length (now list) ⌝ }
+    requires { ⌜ Asked question ⌝ }
+    ensures { λ r. ⌜ ((register : ℕ) → Listed (now (table .entry)) register (now (rows .entry)) → outcome r (now (list .exit)) ≡ judged (length (history (now (table .entry)) register)) allowance (now (list .entry)) (method question (prepared (history (now (table .entry)) register)))) ⌝ }
+{
+    let n = rows.len();
+    let mut start = [0u64; SOME];
+    let mut finish = [0u64; SOME];
+    let mut writer = [0u64; SOME];
+    let mut last = [0u64; SOME];
+    let mut prev = [0u64; SOME];
+    let mut order = [0u64; SOME];
+    work(
+        table,
+        rows,
+        &mut start[..n],
+        &mut finish[..n],
+        &mut writer[..n],
+        &mut last[..n],
+        &mut prev[..n],
+        &mut order,
+        question,
+        allowance,
+        list,
+    )
+}
+
 // The same for as many rows as a table has.
 fn mark_many(table: &[u64], rows: &[u64], question: u64, allowance: u64, list: &mut [u64]) -> Answer
     requires { ⌜ ((register : ℕ) × Listed (now table) register (now rows)) ⌝ }
@@ -194,6 +227,9 @@ fn marked_with(
     let n = columns::rows_by_start(table, register, rows);
     if n <= FEW {
         return mark_few(table, &rows[..n], question, allowance, list);
+    }
+    if n <= SOME {
+        return mark_some(table, &rows[..n], question, allowance, list);
     }
     mark_many(table, &rows[..n], question, allowance, list)
 }

@@ -104,6 +104,11 @@ const FEW: usize = 32;
 
 const FEW_STAMPS: usize = 64;
 
+// Up to so many, arrays of a middle size do.
+const SOME: usize = 256;
+
+const SOME_STAMPS: usize = 512;
+
 const LARGEST_STAMPS: usize = 2048;
 
 // Tests 4 to 9 of few rows.
@@ -117,6 +122,26 @@ fn examine_few(table: &[u64], rows: &[u64]) -> Answer
     let mut stamps = [0u64; FEW_STAMPS];
     let mut firsts = [0u64; FEW_STAMPS];
     let mut writer = [0u64; FEW];
+    examine_rows(
+        table,
+        rows,
+        &mut stamps[..m],
+        &mut firsts[..m],
+        &mut writer[..n],
+    )
+}
+
+// The same for up to 256 rows.
+fn examine_some(table: &[u64], rows: &[u64]) -> Answer
+    requires { ⌜ Listed (now table) (now rows) ⌝ }
+    requires { ⌜ length (now rows) ≤ 256 ⌝ }
+    ensures { λ r. ⌜ r ≡ firstMet (rowTests (map (opAt (now (table .entry))) (now (rows .entry)))) (passed (length (now (rows .entry)))) ⌝ }
+{
+    let n = rows.len();
+    let m = 2 * n;
+    let mut stamps = [0u64; SOME_STAMPS];
+    let mut firsts = [0u64; SOME_STAMPS];
+    let mut writer = [0u64; SOME];
     examine_rows(
         table,
         rows,
@@ -155,6 +180,9 @@ fn examine_gathered(table: &[u64], register: u64, rows: &mut [u64]) -> Answer
     let n = gather(table, register, rows);
     if n <= FEW {
         return examine_few(table, &rows[..n]);
+    }
+    if n <= SOME {
+        return examine_some(table, &rows[..n]);
     }
     examine_many(table, &rows[..n])
 }

@@ -92,6 +92,9 @@ fn writers_with(table: &[u64], rows: &[u64], firsts: &mut [u64], slots: &mut [u6
 // So many rows are few: short arrays do for them, which are sooner cleared than the long ones.
 const FEW: usize = 32;
 
+// Up to so many, arrays of a middle size do.
+const SOME: usize = 256;
+
 // The write of each of few rows.
 fn writers_few(table: &[u64], rows: &[u64], out: &mut [u64])
     requires { ⌜ Within (now table) (now rows) ⌝ }
@@ -102,6 +105,19 @@ fn writers_few(table: &[u64], rows: &[u64], out: &mut [u64])
     let n = rows.len();
     let mut firsts = [0u64; FEW];
     let mut slots = [0u64; FEW];
+    writers_with(table, rows, &mut firsts[..n], &mut slots[..n], out);
+}
+
+// The same for up to 256 rows.
+fn writers_some(table: &[u64], rows: &[u64], out: &mut [u64])
+    requires { ⌜ Within (now table) (now rows) ⌝ }
+    requires { ⌜ length (now rows) ≤ 256 ⌝ }
+    requires { ⌜ length (now out) ≡ length (now rows) ⌝ }
+    ensures { λ _. ⌜ now (out .exit) ≡ map (writerOf (now (table .entry)) (now (rows .entry))) (now (rows .entry)) ⌝ }
+{
+    let n = rows.len();
+    let mut firsts = [0u64; SOME];
+    let mut slots = [0u64; SOME];
     writers_with(table, rows, &mut firsts[..n], &mut slots[..n], out);
 }
 
@@ -127,6 +143,10 @@ pub fn writers(table: &[u64], rows: &[u64], out: &mut [u64])
 {
     if rows.len() <= FEW {
         writers_few(table, rows, out);
+        return;
+    }
+    if rows.len() <= SOME {
+        writers_some(table, rows, out);
         return;
     }
     writers_many(table, rows, out);
