@@ -143,7 +143,7 @@ pub fn late_failures(count: usize, random: &mut Random) -> Vec<Row> {
     rows
 }
 
-/// All writes meet one another, and then come reads of three of them: each epoch, one for each write, fails at these reads.
+/// All writes meet one another, and then come reads of three of them: each epoch, one for each write, fails at these reads. At least seven rows.
 pub fn failures_at_once(count: usize, random: &mut Random) -> Vec<Row> {
     let writes = count as u64 - 3;
     let mut rows: Vec<Row> = (1..=writes).map(|value| row(true, value, 1, 2)).collect();

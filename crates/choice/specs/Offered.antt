@@ -1,7 +1,7 @@
 -- The orders that figure 4 lists for a chunk, by position (document 01, "FZF"): t are the writes of its forward clusters and b those of its
 -- backward ones, both by low end.
 -- Assumes nothing.
-use Prim.Native.Nat.{ℕ, suc, zero, _+_, _-_, _≤_}
+use Prim.Native.Nat.{ℕ, suc, zero, _+_, _≤_}
 use mathlib.Core.Bool.{Bool, true, false, not, cond}
 use mathlib.Core.List.{List, [], _∷_, _++_, map}
 use lib.ListN.{length, getD}

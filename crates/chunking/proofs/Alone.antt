@@ -8,7 +8,7 @@ use native.Mathlib.Omega.{arith}
 use lib.ListN.{length, getD, drop, drop-of-length-le}
 use lib.Dec.{eqb}
 use borrow.Author.Tests.{eq-eqb}
-use Rattle.positions.specs.Places.{upto, and}
+use Rattle.positions.specs.Places.{upto}
 use Rattle.positions.specs.Columns.{mine, readOf}
 use Rattle.positions.proofs.Places.{upto-ext, upto-length, no-cond}
 use Rattle.placing.specs.States.{isFree, stateOf, Ready, Whose}

@@ -2,8 +2,8 @@
 use history::Op;
 use history::Row;
 ghost use mathlib.Core.Path.{_≡_};
-ghost use mathlib.Core.List.{map};
-ghost use Prim.Native.Nat.{ℕ, _+_, _*_, _-_, _≤_, _<_};
+ghost use mathlib.Core.List.{List, map};
+ghost use Prim.Native.Nat.{ℕ, _*_, _≤_, _<_};
 ghost use lib.ListN.{length, getD, take};
 ghost use Rattle.history.specs.Table.{largestCount, rowCount, opAt, bears, history};
 ghost use Rattle.methods.specs.Prepared.{byStart};
@@ -201,11 +201,13 @@ fn choose(finish: &[u64], writer: &[u64], keys: &mut [u64], falling: &mut [u64])
 
 // The writes by falling finish, at the front of the slice, with a place for the key of each operation; their number.
 pub fn falls(finish: &[u64], writer: &[u64], keys: &mut [u64], falling: &mut [u64]) -> usize
-    requires { ⌜ length (now finish) ≡ length (now writer) ⌝ }
-    requires { ⌜ length (now writer) ≤ largestCount ⌝ }
-    requires { ⌜ length (now writer) ≤ length (now keys) ⌝ }
-    requires { ⌜ length (now writer) ≤ length (now falling) ⌝ }
-    ensures { λ r. ⌜ (r ≡ length (fallingOf (now (finish .entry)) (now (writer .entry)))) × (take r (now (falling .exit)) ≡ fallingOf (now (finish .entry)) (now (writer .entry))) ⌝ }
+    ghost { List ℕ }
+    requires { λ l. ⌜ fallingOf (now finish) (now writer) ≡ l ⌝ }
+    requires { λ l. ⌜ length (now finish) ≡ length (now writer) ⌝ }
+    requires { λ l. ⌜ length (now writer) ≤ largestCount ⌝ }
+    requires { λ l. ⌜ length (now writer) ≤ length (now keys) ⌝ }
+    requires { λ l. ⌜ length (now writer) ≤ length (now falling) ⌝ }
+    ensures { λ l r. ⌜ (r ≡ length l) × (take r (now (falling .exit)) ≡ l) ⌝ }
 {
     let m = choose(finish, writer, keys, falling);
     sorting::sort_by(keys, &mut falling[..m]);

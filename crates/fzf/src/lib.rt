@@ -8,7 +8,7 @@ ghost use lib.ListN.{length};
 ghost use Rattle.history.specs.Table.{largestCount};
 ghost use Rattle.methods.specs.Fzf.{fzf};
 ghost use Rattle.methods.specs.Mark.{untried};
-ghost use Rattle.positions.specs.Columns.{cols, Sound};
+ghost use Rattle.positions.specs.Columns.{Cols, cols, Sound};
 ghost use Rattle.placing.specs.States.{isFree};
 ghost use Rattle.placing.specs.Searched.{Searched};
 ghost use Rattle.zones.specs.Zones.{Zoned};
@@ -32,18 +32,20 @@ fn sides(
     part: &mut [u64],
     order: &mut [u64],
 ) -> Search
-    requires { ⌜ Sound (cols (now start) (now finish) (now writer) (now last) (now prev)) ⌝ }
-    requires { ⌜ length (now start) ≤ largestCount ⌝ }
-    requires { ⌜ Known (cols (now start) (now finish) (now writer) (now last) (now prev)) ⌝ }
-    requires { ⌜ Zoned (cols (now start) (now finish) (now writer) (now last) (now prev)) (now late) ⌝ }
-    requires { ⌜ now forwards ≡ forths (cols (now start) (now finish) (now writer) (now last) (now prev)) (now late) ⌝ }
-    requires { ⌜ now backwards ≡ backs (cols (now start) (now finish) (now writer) (now last) (now prev)) (now late) ⌝ }
-    requires { ⌜ length (now start) ≤ length (now marks) ⌝ }
-    requires { ⌜ ((i : ℕ) → i < length (now marks) → isFree (now marks) i ≡ true) ⌝ }
-    requires { ⌜ Lent (length (now start)) (now list) (now turn) (now placed) (now part) ⌝ }
-    requires { ⌜ Shut (length (now writer)) (now placed) ⌝ }
-    requires { ⌜ length (now start) ≤ length (now order) ⌝ }
-    ensures { λ r. ⌜ ((allowance : ℕ) → Searched (cols (now (start .entry)) (now (finish .entry)) (now (writer .entry)) (now (last .entry)) (now (prev .entry))) allowance (λ H. untried (fzf H)) (now (order .exit)) r) ⌝ }
+    ghost { Cols }
+    requires { λ C. ⌜ cols (now start) (now finish) (now writer) (now last) (now prev) ≡ C ⌝ }
+    requires { λ C. ⌜ Sound C ⌝ }
+    requires { λ C. ⌜ length (now start) ≤ largestCount ⌝ }
+    requires { λ C. ⌜ Known C ⌝ }
+    requires { λ C. ⌜ Zoned C (now late) ⌝ }
+    requires { λ C. ⌜ now forwards ≡ forths C (now late) ⌝ }
+    requires { λ C. ⌜ now backwards ≡ backs C (now late) ⌝ }
+    requires { λ C. ⌜ length (now start) ≤ length (now marks) ⌝ }
+    requires { λ C. ⌜ ((i : ℕ) → i < length (now marks) → isFree (now marks) i ≡ true) ⌝ }
+    requires { λ C. ⌜ Lent (length (now start)) (now list) (now turn) (now placed) (now part) ⌝ }
+    requires { λ C. ⌜ Shut (length (now writer)) (now placed) ⌝ }
+    requires { λ C. ⌜ length (now start) ≤ length (now order) ⌝ }
+    ensures { λ C r. ⌜ ((allowance : ℕ) → Searched C allowance (λ H. untried (fzf H)) (now (order .exit)) r) ⌝ }
 {
     chunking::mark_inner(finish, late, forwards, backwards, list, marks);
     joining::join(
@@ -81,21 +83,23 @@ fn search_with(
     part: &mut [u64],
     order: &mut [u64],
 ) -> Search
-    requires { ⌜ Sound (cols (now start) (now finish) (now writer) (now last) (now prev)) ⌝ }
-    requires { ⌜ length (now start) ≤ largestCount ⌝ }
-    requires { ⌜ Known (cols (now start) (now finish) (now writer) (now last) (now prev)) ⌝ }
-    requires { ⌜ length (now late) ≡ length (now start) ⌝ }
-    requires { ⌜ length (now start) ≤ length (now list) ⌝ }
-    requires { ⌜ length (now start) ≤ length (now forwards) ⌝ }
-    requires { ⌜ length (now start) ≤ length (now backwards) ⌝ }
-    requires { ⌜ length (now start) ≤ length (now inner) ⌝ }
-    requires { ⌜ length (now start) ≤ length (now marks) ⌝ }
-    requires { ⌜ ((i : ℕ) → i < length (now marks) → isFree (now marks) i ≡ true) ⌝ }
-    requires { ⌜ length (now start) ≤ length (now placed) ⌝ }
-    requires { ⌜ Shut (length (now writer)) (now placed) ⌝ }
-    requires { ⌜ length (now start) ≤ length (now part) ⌝ }
-    requires { ⌜ length (now start) ≤ length (now order) ⌝ }
-    ensures { λ r. ⌜ ((allowance : ℕ) → Searched (cols (now (start .entry)) (now (finish .entry)) (now (writer .entry)) (now (last .entry)) (now (prev .entry))) allowance (λ H. untried (fzf H)) (now (order .exit)) r) ⌝ }
+    ghost { Cols }
+    requires { λ C. ⌜ cols (now start) (now finish) (now writer) (now last) (now prev) ≡ C ⌝ }
+    requires { λ C. ⌜ Sound C ⌝ }
+    requires { λ C. ⌜ length (now start) ≤ largestCount ⌝ }
+    requires { λ C. ⌜ Known C ⌝ }
+    requires { λ C. ⌜ length (now late) ≡ length (now start) ⌝ }
+    requires { λ C. ⌜ length (now start) ≤ length (now list) ⌝ }
+    requires { λ C. ⌜ length (now start) ≤ length (now forwards) ⌝ }
+    requires { λ C. ⌜ length (now start) ≤ length (now backwards) ⌝ }
+    requires { λ C. ⌜ length (now start) ≤ length (now inner) ⌝ }
+    requires { λ C. ⌜ length (now start) ≤ length (now marks) ⌝ }
+    requires { λ C. ⌜ ((i : ℕ) → i < length (now marks) → isFree (now marks) i ≡ true) ⌝ }
+    requires { λ C. ⌜ length (now start) ≤ length (now placed) ⌝ }
+    requires { λ C. ⌜ Shut (length (now writer)) (now placed) ⌝ }
+    requires { λ C. ⌜ length (now start) ≤ length (now part) ⌝ }
+    requires { λ C. ⌜ length (now start) ≤ length (now order) ⌝ }
+    ensures { λ C r. ⌜ ((allowance : ℕ) → Searched C allowance (λ H. untried (fzf H)) (now (order .exit)) r) ⌝ }
 {
     zones::lates(start, writer, last, late);
     // The part is written later, and has the room for the low ends until then.
@@ -130,11 +134,13 @@ fn search_few(
     prev: &[u64],
     order: &mut [u64],
 ) -> Search
-    requires { ⌜ Sound (cols (now start) (now finish) (now writer) (now last) (now prev)) ⌝ }
-    requires { ⌜ length (now start) ≤ 32 ⌝ }
-    requires { ⌜ Known (cols (now start) (now finish) (now writer) (now last) (now prev)) ⌝ }
-    requires { ⌜ length (now start) ≤ length (now order) ⌝ }
-    ensures { λ r. ⌜ ((allowance : ℕ) → Searched (cols (now (start .entry)) (now (finish .entry)) (now (writer .entry)) (now (last .entry)) (now (prev .entry))) allowance (λ H. untried (fzf H)) (now (order .exit)) r) ⌝ }
+    ghost { Cols }
+    requires { λ C. ⌜ cols (now start) (now finish) (now writer) (now last) (now prev) ≡ C ⌝ }
+    requires { λ C. ⌜ Sound C ⌝ }
+    requires { λ C. ⌜ length (now start) ≤ 32 ⌝ }
+    requires { λ C. ⌜ Known C ⌝ }
+    requires { λ C. ⌜ length (now start) ≤ length (now order) ⌝ }
+    ensures { λ C r. ⌜ ((allowance : ℕ) → Searched C allowance (λ H. untried (fzf H)) (now (order .exit)) r) ⌝ }
 {
     let n = start.len();
     let mut late = [0u64; zones::FEW];
@@ -172,11 +178,13 @@ fn search_many(
     prev: &[u64],
     order: &mut [u64],
 ) -> Search
-    requires { ⌜ Sound (cols (now start) (now finish) (now writer) (now last) (now prev)) ⌝ }
-    requires { ⌜ length (now start) ≤ largestCount ⌝ }
-    requires { ⌜ Known (cols (now start) (now finish) (now writer) (now last) (now prev)) ⌝ }
-    requires { ⌜ length (now start) ≤ length (now order) ⌝ }
-    ensures { λ r. ⌜ ((allowance : ℕ) → Searched (cols (now (start .entry)) (now (finish .entry)) (now (writer .entry)) (now (last .entry)) (now (prev .entry))) allowance (λ H. untried (fzf H)) (now (order .exit)) r) ⌝ }
+    ghost { Cols }
+    requires { λ C. ⌜ cols (now start) (now finish) (now writer) (now last) (now prev) ≡ C ⌝ }
+    requires { λ C. ⌜ Sound C ⌝ }
+    requires { λ C. ⌜ length (now start) ≤ largestCount ⌝ }
+    requires { λ C. ⌜ Known C ⌝ }
+    requires { λ C. ⌜ length (now start) ≤ length (now order) ⌝ }
+    ensures { λ C r. ⌜ ((allowance : ℕ) → Searched C allowance (λ H. untried (fzf H)) (now (order .exit)) r) ⌝ }
 {
     let n = start.len();
     let mut late = [0u64; Row::LARGEST_COUNT];
@@ -214,11 +222,13 @@ pub fn search(
     prev: &[u64],
     order: &mut [u64],
 ) -> Search
-    requires { ⌜ Sound (cols (now start) (now finish) (now writer) (now last) (now prev)) ⌝ }
-    requires { ⌜ length (now start) ≤ largestCount ⌝ }
-    requires { ⌜ Known (cols (now start) (now finish) (now writer) (now last) (now prev)) ⌝ }
-    requires { ⌜ length (now start) ≤ length (now order) ⌝ }
-    ensures { λ r. ⌜ ((allowance : ℕ) → Searched (cols (now (start .entry)) (now (finish .entry)) (now (writer .entry)) (now (last .entry)) (now (prev .entry))) allowance (λ H. untried (fzf H)) (now (order .exit)) r) ⌝ }
+    ghost { Cols }
+    requires { λ C. ⌜ cols (now start) (now finish) (now writer) (now last) (now prev) ≡ C ⌝ }
+    requires { λ C. ⌜ Sound C ⌝ }
+    requires { λ C. ⌜ length (now start) ≤ largestCount ⌝ }
+    requires { λ C. ⌜ Known C ⌝ }
+    requires { λ C. ⌜ length (now start) ≤ length (now order) ⌝ }
+    ensures { λ C r. ⌜ ((allowance : ℕ) → Searched C allowance (λ H. untried (fzf H)) (now (order .exit)) r) ⌝ }
 {
     if start.len() <= zones::FEW {
         return search_few(start, finish, writer, last, prev, order);

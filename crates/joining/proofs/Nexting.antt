@@ -17,7 +17,7 @@ use Rattle.lists.proofs.Cover.{in-drop, in-take}
 use Rattle.lists.proofs.Images.{getD-in, pairs-take, pairs-from}
 use Rattle.history.specs.declared.Op.{Op}
 use Rattle.methods.specs.declared.Zone.{Zone}
-use Rattle.methods.specs.Zones.{order, low, zoneOf, cluster}
+use Rattle.methods.specs.Zones.{order, low, zoneOf}
 use Rattle.methods.specs.Fzf.{Run, chunk, dangling, newRun, extend, grow, runs, dangles, itemFirst, made}
 use Rattle.positions.specs.Places.{upto}
 use Rattle.positions.specs.Columns.{Cols, size, readOf, Sound, op, ops, Of}

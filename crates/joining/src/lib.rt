@@ -8,7 +8,7 @@ ghost use Rattle.history.specs.Table.{largestCount};
 ghost use Rattle.methods.specs.Zones.{low};
 ghost use Rattle.methods.specs.Fzf.{fzf};
 ghost use Rattle.methods.specs.Mark.{untried};
-ghost use Rattle.positions.specs.Columns.{cols, Sound};
+ghost use Rattle.positions.specs.Columns.{Cols, cols, Sound};
 ghost use Rattle.placing.specs.Searched.{Searched};
 ghost use Rattle.zones.specs.Zones.{zoneBy, Zoned, Inside};
 ghost use Rattle.freeing.specs.Freed.{Shut};
@@ -58,17 +58,19 @@ fn chunk(
     placed: &mut [u8],
     part: &mut [u64],
 ) -> Ordered
-    requires { ⌜ Sound (cols (now start) (now finish) (now writer) (now last) (now prev)) ⌝ }
-    requires { ⌜ length (now start) ≤ largestCount ⌝ }
-    requires { ⌜ Zoned (cols (now start) (now finish) (now writer) (now last) (now prev)) (now late) ⌝ }
-    requires { ⌜ Cut (cols (now start) (now finish) (now writer) (now last) (now prev)) (now late) (now run) ⌝ }
-    requires { ⌜ now backwards ≡ backs (cols (now start) (now finish) (now writer) (now last) (now prev)) (now late) ⌝ }
-    requires { ⌜ Behind (now finish) (now late) (now backwards) i (low (zoneBy (now finish) (now late) (getD (now run) 0 0))) ⌝ }
-    requires { ⌜ Lent (length (now start)) (now list) (now turn) (now placed) (now part) ⌝ }
-    requires { ⌜ Shut (length (now writer)) (now placed) ⌝ }
-    ensures order { λ r. ⌜ Chunked (cols (now (start .entry)) (now (finish .entry)) (now (writer .entry)) (now (last .entry)) (now (prev .entry))) (now (run .entry)) top (now (part .exit)) (r .at) (r .failed) ⌝ }
-    ensures marks { λ _. ⌜ Shut (length (now (writer .entry))) (now (placed .exit)) ⌝ }
-    ensures next { λ r. ⌜ ((limit : ℕ) → low (zoneBy (now (finish .entry)) (now (late .entry)) (getD (now (run .entry)) 0 0)) ≤ limit → top ≤ limit → Behind (now (finish .entry)) (now (late .entry)) (now (backwards .entry)) (r .next) limit) ⌝ }
+    ghost { Cols }
+    requires { λ C. ⌜ cols (now start) (now finish) (now writer) (now last) (now prev) ≡ C ⌝ }
+    requires { λ C. ⌜ Sound C ⌝ }
+    requires { λ C. ⌜ length (now start) ≤ largestCount ⌝ }
+    requires { λ C. ⌜ Zoned C (now late) ⌝ }
+    requires { λ C. ⌜ Cut C (now late) (now run) ⌝ }
+    requires { λ C. ⌜ now backwards ≡ backs C (now late) ⌝ }
+    requires { λ C. ⌜ Behind (now finish) (now late) (now backwards) i (low (zoneBy (now finish) (now late) (getD (now run) 0 0))) ⌝ }
+    requires { λ C. ⌜ Lent (length (now start)) (now list) (now turn) (now placed) (now part) ⌝ }
+    requires { λ C. ⌜ Shut (length (now writer)) (now placed) ⌝ }
+    ensures order { λ C r. ⌜ Chunked C (now (run .entry)) top (now (part .exit)) (r .at) (r .failed) ⌝ }
+    ensures marks { λ C _. ⌜ Shut (length (now (writer .entry))) (now (placed .exit)) ⌝ }
+    ensures next { λ C r. ⌜ ((limit : ℕ) → low (zoneBy (now (finish .entry)) (now (late .entry)) (getD (now (run .entry)) 0 0)) ≤ limit → top ≤ limit → Behind (now (finish .entry)) (now (late .entry)) (now (backwards .entry)) (r .next) limit) ⌝ }
 {
     let bottom = low_end(finish, late, run[0] as usize);
     let found = chunking::enclose(finish, late, backwards, i, bottom, top, list);
@@ -161,16 +163,18 @@ fn item(
     placed: &mut [u8],
     part: &mut [u64],
 ) -> Next
-    requires { ⌜ Sound (cols (now start) (now finish) (now writer) (now last) (now prev)) ⌝ }
-    requires { ⌜ length (now start) ≤ largestCount ⌝ }
-    requires { ⌜ Zoned (cols (now start) (now finish) (now writer) (now last) (now prev)) (now late) ⌝ }
-    requires { ⌜ now forwards ≡ forths (cols (now start) (now finish) (now writer) (now last) (now prev)) (now late) ⌝ }
-    requires { ⌜ now backwards ≡ backs (cols (now start) (now finish) (now writer) (now last) (now prev)) (now late) ⌝ }
-    requires { ⌜ Waiting (now finish) (now late) (now forwards) (now backwards) a j ⌝ }
-    requires { ⌜ Poised (cols (now start) (now finish) (now writer) (now last) (now prev)) (now late) (now forwards) (now backwards) a i (now placed) ⌝ }
-    requires { ⌜ Lent (length (now start)) (now list) (now turn) (now placed) (now part) ⌝ }
-    ensures end { λ r. ⌜ Nexts (cols (now (start .entry)) (now (finish .entry)) (now (writer .entry)) (now (last .entry)) (now (prev .entry))) (now (forwards .entry)) (now (backwards .entry)) a j (now (part .exit)) r ⌝ }
-    ensures poised { λ r. ⌜ Poised (cols (now (start .entry)) (now (finish .entry)) (now (writer .entry)) (now (last .entry)) (now (prev .entry))) (now (late .entry)) (now (forwards .entry)) (now (backwards .entry)) (r .forward) (r .inner) (now (placed .exit)) ⌝ }
+    ghost { Cols }
+    requires { λ C. ⌜ cols (now start) (now finish) (now writer) (now last) (now prev) ≡ C ⌝ }
+    requires { λ C. ⌜ Sound C ⌝ }
+    requires { λ C. ⌜ length (now start) ≤ largestCount ⌝ }
+    requires { λ C. ⌜ Zoned C (now late) ⌝ }
+    requires { λ C. ⌜ now forwards ≡ forths C (now late) ⌝ }
+    requires { λ C. ⌜ now backwards ≡ backs C (now late) ⌝ }
+    requires { λ C. ⌜ Waiting (now finish) (now late) (now forwards) (now backwards) a j ⌝ }
+    requires { λ C. ⌜ Poised C (now late) (now forwards) (now backwards) a i (now placed) ⌝ }
+    requires { λ C. ⌜ Lent (length (now start)) (now list) (now turn) (now placed) (now part) ⌝ }
+    ensures end { λ C r. ⌜ Nexts C (now (forwards .entry)) (now (backwards .entry)) a j (now (part .exit)) r ⌝ }
+    ensures poised { λ C r. ⌜ Poised C (now (late .entry)) (now (forwards .entry)) (now (backwards .entry)) (r .forward) (r .inner) (now (placed .exit)) ⌝ }
 {
     if chunk_first(finish, late, forwards, backwards, a, j) {
         let span = chunking::run(finish, late, forwards, a);
@@ -227,18 +231,20 @@ pub fn join(
     part: &mut [u64],
     order: &mut [u64],
 ) -> Search
-    requires { ⌜ Sound (cols (now start) (now finish) (now writer) (now last) (now prev)) ⌝ }
-    requires { ⌜ length (now start) ≤ largestCount ⌝ }
-    requires { ⌜ Known (cols (now start) (now finish) (now writer) (now last) (now prev)) ⌝ }
-    requires { ⌜ Zoned (cols (now start) (now finish) (now writer) (now last) (now prev)) (now late) ⌝ }
-    requires { ⌜ now forwards ≡ forths (cols (now start) (now finish) (now writer) (now last) (now prev)) (now late) ⌝ }
-    requires { ⌜ now backwards ≡ backs (cols (now start) (now finish) (now writer) (now last) (now prev)) (now late) ⌝ }
-    requires { ⌜ length (now start) ≤ length (now marks) ⌝ }
-    requires { ⌜ Hangs (now finish) (now late) (now forwards) (now backwards) (now marks) ⌝ }
-    requires { ⌜ Lent (length (now start)) (now list) (now turn) (now placed) (now part) ⌝ }
-    requires { ⌜ Shut (length (now writer)) (now placed) ⌝ }
-    requires { ⌜ length (now start) ≤ length (now order) ⌝ }
-    ensures { λ r. ⌜ ((allowance : ℕ) → Searched (cols (now (start .entry)) (now (finish .entry)) (now (writer .entry)) (now (last .entry)) (now (prev .entry))) allowance (λ H. untried (fzf H)) (now (order .exit)) r) ⌝ }
+    ghost { Cols }
+    requires { λ C. ⌜ cols (now start) (now finish) (now writer) (now last) (now prev) ≡ C ⌝ }
+    requires { λ C. ⌜ Sound C ⌝ }
+    requires { λ C. ⌜ length (now start) ≤ largestCount ⌝ }
+    requires { λ C. ⌜ Known C ⌝ }
+    requires { λ C. ⌜ Zoned C (now late) ⌝ }
+    requires { λ C. ⌜ now forwards ≡ forths C (now late) ⌝ }
+    requires { λ C. ⌜ now backwards ≡ backs C (now late) ⌝ }
+    requires { λ C. ⌜ length (now start) ≤ length (now marks) ⌝ }
+    requires { λ C. ⌜ Hangs (now finish) (now late) (now forwards) (now backwards) (now marks) ⌝ }
+    requires { λ C. ⌜ Lent (length (now start)) (now list) (now turn) (now placed) (now part) ⌝ }
+    requires { λ C. ⌜ Shut (length (now writer)) (now placed) ⌝ }
+    requires { λ C. ⌜ length (now start) ≤ length (now order) ⌝ }
+    ensures { λ C r. ⌜ ((allowance : ℕ) → Searched C allowance (λ H. untried (fzf H)) (now (order .exit)) r) ⌝ }
 {
     let mut m: usize = 0;
     let mut a: usize = 0;
@@ -247,11 +253,7 @@ pub fn join(
     loop {
         j = chunking::skip(backwards, marks, j);
         if over(forwards.len(), backwards.len(), a, j) {
-            return Search::Fresh {
-                from: 0,
-                to: m,
-                trials: 0,
-            };
+            return Search::Fresh(0, m, 0);
         }
         let next = item(
             start,
@@ -271,7 +273,7 @@ pub fn join(
             part,
         );
         if next.failed {
-            return Search::Stale { trials: 0 };
+            return Search::Stale(0);
         }
         let at = next.at;
         m = append(&part[at..], order, m);

@@ -1,4 +1,4 @@
--- The loop of an epoch: steps from one write to the write that it asks for.
+-- The loop of an epoch, steps from one write to the write that it asks for; and the loop that clears what a failed one marked.
 -- Assumes nothing.
 use Prim.Native.Nat.{ℕ, suc, _+_, _-_, _≤_, _<_}
 use mathlib.Core.Path.{_≡_, refl, ap, sym, _∙_}
@@ -26,7 +26,7 @@ use Rattle.lbt.specs.declared.Trial.the-variants.{Failed, Placed}
 use Rattle.lbt.specs.Epochs.{epochOf, Ran, loses, wins}
 use Rattle.lbt.proofs.Answers.{step-bad, step-done, step-next}
 
--- The loop that clears marks: what is still to clear, of the marks now, is all of those before.
+-- the invariant of clearing: the rest of the marks cleared gives what all of the old ones cleared give
 pub record Clearing (listed old : List ℕ) (i : ℕ) (marks : List ℕ) : Type 0 where
   pub within : i ≤ length listed
   pub long : length marks ≡ length old
@@ -109,8 +109,8 @@ module _ (C : Cols) (p : Sound C) (w : ℕ) (s : State) where
       front : (r : Tried) (x : Went C v t r) → segment (op H v) (ops H (left t)) ++ ops H (g .added .ops) ≡ ops H (x .added .ops ++ g .added .ops)
       front r x = ap (λ (l : List Op). l ++ ops H (g .added .ops)) (x .segments H f) ∙ sym (map-append (op H) (x .added .ops) (g .added .ops))
 
-    -- what was placed when a step fails
-    pub run-added : (r : Tried) → Stepped C v t r → Added s (r .state)
+    -- what the epoch has placed after a step
+    run-added : (r : Tried) → Stepped C v t r → Added s (r .state)
     run-added r (fails e a b) = added-twice (g .added) a
     run-added r (goes e x) = added-twice (g .added) (x .added)
 

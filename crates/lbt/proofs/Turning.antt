@@ -11,7 +11,6 @@ use lib.ListN.{length, getD, drop, drop-of-length-le}
 use lib.Seq.{drop-cons}
 use borrow.Author.Tests.{le-leb, lt-leb, leb-true, eq-eqb, ne-eqb}
 use Rattle.lists.specs.Lists.{keep, put}
-use Rattle.lists.proofs.Tests.{both}
 use Rattle.lists.proofs.Images.{keep-none, getD-in, pairs-drop}
 use Rattle.history.specs.declared.Op.{Op}
 use Rattle.methods.specs.Place.{writeCount}
@@ -89,7 +88,7 @@ Open C s low = and (isFree (s .placed)) (may C low)
 abbrev pub roundAt : Cols → List Op → State → ℕ → List ℕ → ℕ → Round
 roundAt C H s low F i = round (ops H (left s)) (ops H (keep (Open C s low) (drop i F)))
 
--- the invariant, at the write i with count trials: the marks and the order are those of s again
+-- the invariant, at the write i with count trials: every mark is as it was in s, and so is what was laid
 pub record Turning (C : Cols) (s : State) (low base allowance : ℕ) (F marks cells : List ℕ) (i count : ℕ) : Type 0 where
   pub kept : Kept s marks cells
   pub within : i ≤ length F

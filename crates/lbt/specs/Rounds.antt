@@ -38,9 +38,11 @@ unfoldable pub tried : Round → ℕ
 tried (lost t) = t
 tried (won t l o) = t
 
--- THE CONTRACT of a round, of which n trials are; s is the state and base the trials before it, marks and cells what is lent after it
+-- THE CONTRACT of a round of n trials: s is the state and base the trials before it, marks and cells are what is lent after it
 pub data Turned (C : Cols) (s : State) (base allowance : ℕ) (marks cells : List ℕ) : Turn → Type 0 where
-  is-lost : (n : ℕ) {t : ℕ} → Kept s marks cells → t ≡ base + n → t ≤ allowance → Says C (λ H. roundOf H s ≡ lost n) → Turned C s base allowance marks cells (Lost t)
+  is-lost : (n : ℕ) {t : ℕ} → Kept s marks cells → t ≡ base + n → t ≤ allowance → Says C (λ H. roundOf H s ≡ lost n) →
+      Turned C s base allowance marks cells (Lost t)
   is-won : (n w : ℕ) {at top t : ℕ} → t ≡ base + n → t ≤ allowance → Whose (C .writer) s w → (x : Wins C w s (stateOf marks cells at top)) →
-      Says C (λ H. roundOf H s ≡ won n (ops H (left (stateOf marks cells at top))) (ops H (x .added .ops))) → Turned C s base allowance marks cells (Won at top t)
+      Says C (λ H. roundOf H s ≡ won n (ops H (left (stateOf marks cells at top))) (ops H (x .added .ops))) →
+      Turned C s base allowance marks cells (Won at top t)
   is-spent : Kept s marks cells → Says C (λ H. allowance < base + tried (roundOf H s)) → Turned C s base allowance marks cells Spent

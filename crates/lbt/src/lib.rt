@@ -8,23 +8,25 @@ ghost use Rattle.history.specs.Table.{largestCount};
 ghost use Rattle.methods.specs.Mark.{walked};
 ghost use Rattle.methods.specs.Lbt.{lbt};
 ghost use Rattle.positions.specs.Places.{latest};
-ghost use Rattle.positions.specs.Columns.{cols, byFinish, Sound};
-ghost use Rattle.placing.specs.States.{isFree, stateOf, Holds, Whose};
+ghost use Rattle.positions.specs.Columns.{Cols, cols, byFinish, Sound};
+ghost use Rattle.placing.specs.States.{State, isFree, stateOf, Holds, Whose};
 ghost use Rattle.placing.specs.Added.{marksWith};
 ghost use Rattle.placing.specs.Searched.{Searched};
 ghost use Rattle.lbt.specs.Epochs.{Ran};
 ghost use Rattle.lbt.specs.Rounds.{openWrite, Lowest, Skipped, Turned};
 
-// What an epoch gives beside the lent marks and order: these are as they were, or hold the state of `at` and `top`.
+// What an epoch gives beside the lent marks and order: it failed, and every mark is as it was; or it ended well, and the order begins at the first
+// number, while nothing from the second on is left to place.
 enum Trial {
     Failed,
-    Placed { at: usize, top: usize },
+    Placed(usize, usize),
 }
 
-// What a round gives beside them: no epoch wins, one does and leaves the state of `at` and `top`, or the allowance is used up.
+// What a round gives beside them: no epoch ended well, after so many trials; one did, with its two numbers, after so many trials; or the allowance
+// was used up.
 enum Turn {
-    Lost { trials: u64 },
-    Won { at: usize, top: usize, trials: u64 },
+    Lost(u64),
+    Won(usize, usize, u64),
     Spent,
 }
 
@@ -55,10 +57,12 @@ fn epoch(
     top: usize,
     w: usize,
 ) -> Trial
-    requires { ⌜ Sound (cols (now start) (now finish) (now writer) (now last) (now prev)) ⌝ }
-    requires { ⌜ Holds (cols (now start) (now finish) (now writer) (now last) (now prev)) (stateOf (now placed) (now order) at top) ⌝ }
-    requires { ⌜ Whose (now writer) (stateOf (now placed) (now order) at top) w ⌝ }
-    ensures { λ r. ⌜ Ran (cols (now (start .entry)) (now (finish .entry)) (now (writer .entry)) (now (last .entry)) (now (prev .entry))) w (stateOf (now (placed .entry)) (now (order .entry)) at top) (now (placed .exit)) (now (order .exit)) r ⌝ }
+    ghost { Cols × State }
+    requires { λ g. ⌜ (cols (now start) (now finish) (now writer) (now last) (now prev), stateOf (now placed) (now order) at top) ≡ g ⌝ }
+    requires { λ g. ⌜ Sound (g .0) ⌝ }
+    requires { λ g. ⌜ Holds (g .0) (g .1) ⌝ }
+    requires { λ g. ⌜ Whose (g .0 .writer) (g .1) w ⌝ }
+    ensures { λ g r. ⌜ Ran (g .0) w (g .1) (now (placed .exit)) (now (order .exit)) r ⌝ }
 {
     let mut a = at;
     let mut k = top;
@@ -72,10 +76,7 @@ fn epoch(
             return Trial::Failed;
         }
         if next.asked == 0 {
-            return Trial::Placed {
-                at: next.at,
-                top: next.top,
-            };
+            return Trial::Placed(next.at, next.top);
         }
         a = next.at;
         k = next.top;
@@ -138,14 +139,16 @@ fn round(
     allowance: u64,
     trials: u64,
 ) -> Turn
-    requires { ⌜ Sound (cols (now start) (now finish) (now writer) (now last) (now prev)) ⌝ }
-    requires { ⌜ Holds (cols (now start) (now finish) (now writer) (now last) (now prev)) (stateOf (now placed) (now order) at top) ⌝ }
-    requires { ⌜ now falling ≡ byFinish (cols (now start) (now finish) (now writer) (now last) (now prev)) ⌝ }
-    requires { ⌜ Lowest (cols (now start) (now finish) (now writer) (now last) (now prev)) (stateOf (now placed) (now order) at top) low ⌝ }
-    requires { ⌜ low ≤ length (now start) ⌝ }
-    requires { ⌜ Skipped (now falling) (now placed) from ⌝ }
-    requires { ⌜ trials ≤ allowance ⌝ }
-    ensures { λ r. ⌜ Turned (cols (now (start .entry)) (now (finish .entry)) (now (writer .entry)) (now (last .entry)) (now (prev .entry))) (stateOf (now (placed .entry)) (now (order .entry)) at top) trials allowance (now (placed .exit)) (now (order .exit)) r ⌝ }
+    ghost { Cols × State }
+    requires { λ g. ⌜ (cols (now start) (now finish) (now writer) (now last) (now prev), stateOf (now placed) (now order) at top) ≡ g ⌝ }
+    requires { λ g. ⌜ Sound (g .0) ⌝ }
+    requires { λ g. ⌜ Holds (g .0) (g .1) ⌝ }
+    requires { λ g. ⌜ now falling ≡ byFinish (g .0) ⌝ }
+    requires { λ g. ⌜ Lowest (g .0) (g .1) low ⌝ }
+    requires { λ g. ⌜ low ≤ length (now start) ⌝ }
+    requires { λ g. ⌜ Skipped (now falling) (now placed) from ⌝ }
+    requires { λ g. ⌜ trials ≤ allowance ⌝ }
+    ensures { λ g r. ⌜ Turned (g .0) (g .1) trials allowance (now (placed .exit)) (now (order .exit)) r ⌝ }
 {
     let newest = start[low - 1];
     let n = falling.len();
@@ -153,25 +156,21 @@ fn round(
     let mut i = from;
     let turn = 'candidates: loop {
         if n <= i {
-            break 'candidates Turn::Lost { trials: count };
+            break 'candidates Turn::Lost(count);
         }
         let w = falling[i] as usize;
         i += 1;
         if placed[w] == 0 {
             if finish[w] < newest {
-                break 'candidates Turn::Lost { trials: count };
+                break 'candidates Turn::Lost(count);
             }
             if count == allowance {
                 break 'candidates Turn::Spent;
             }
             count += 1;
             let tried = epoch(start, finish, writer, last, prev, placed, order, at, top, w);
-            if let Trial::Placed { at, top } = tried {
-                break 'candidates Turn::Won {
-                    at,
-                    top,
-                    trials: count,
-                };
+            if let Trial::Placed(at, top) = tried {
+                break 'candidates Turn::Won(at, top, count);
             }
         }
     };
@@ -190,29 +189,26 @@ pub fn search(
     placed: &mut [u8],
     order: &mut [u64],
 ) -> Search
-    requires { ⌜ Sound (cols (now start) (now finish) (now writer) (now last) (now prev)) ⌝ }
-    requires { ⌜ now falling ≡ byFinish (cols (now start) (now finish) (now writer) (now last) (now prev)) ⌝ }
-    requires { ⌜ length (now start) ≤ largestCount ⌝ }
-    requires { ⌜ length (now start) ≤ length (now placed) ⌝ }
-    requires { ⌜ ((i : ℕ) → i < length (now placed) → isFree (now placed) i ≡ true) ⌝ }
-    requires { ⌜ length (now start) ≤ length (now order) ⌝ }
-    ensures { λ r. ⌜ Searched (cols (now (start .entry)) (now (finish .entry)) (now (writer .entry)) (now (last .entry)) (now (prev .entry))) allowance (λ H. walked (lbt H)) (now (order .exit)) r ⌝ }
+    ghost { Cols }
+    requires { λ C. ⌜ cols (now start) (now finish) (now writer) (now last) (now prev) ≡ C ⌝ }
+    requires { λ C. ⌜ Sound C ⌝ }
+    requires { λ C. ⌜ now falling ≡ byFinish C ⌝ }
+    requires { λ C. ⌜ length (now start) ≤ largestCount ⌝ }
+    requires { λ C. ⌜ length (now start) ≤ length (now placed) ⌝ }
+    requires { λ C. ⌜ ((i : ℕ) → i < length (now placed) → isFree (now placed) i ≡ true) ⌝ }
+    requires { λ C. ⌜ length (now start) ≤ length (now order) ⌝ }
+    ensures { λ C r. ⌜ Searched C allowance (λ H. walked (lbt H)) (now (order .exit)) r ⌝ }
 {
-    let n = start.len();
     let to = order.len();
     let mut at = to;
-    let mut top = n;
-    let mut low = n;
+    let mut top = start.len();
+    let mut low = top;
     let mut from: usize = 0;
     let mut trials: u64 = 0;
     loop {
         low = newest(writer, placed, low);
         if low == 0 {
-            return Search::Fresh {
-                from: at,
-                to,
-                trials,
-            };
+            return Search::Fresh(at, to, trials);
         }
         from = first(falling, placed, from);
         let turn = round(
@@ -232,16 +228,12 @@ pub fn search(
             trials,
         );
         match turn {
-            Turn::Lost { trials: tried } => return Search::Stale { trials: tried },
+            Turn::Lost(t) => return Search::Stale(t),
             Turn::Spent => return Search::Spent,
-            Turn::Won {
-                at: front,
-                top: height,
-                trials: tried,
-            } => {
-                at = front;
-                top = height;
-                trials = tried;
+            Turn::Won(a, k, t) => {
+                at = a;
+                top = k;
+                trials = t;
             }
         }
     }

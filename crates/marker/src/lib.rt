@@ -8,17 +8,16 @@ ghost use Prim.Native.Nat.{ℕ, _≤_};
 ghost use lib.ListN.{length};
 ghost use Rattle.history.specs.Table.{history, Alike, largestCount, rowCount};
 ghost use Rattle.history.specs.Answer.{firstMet, passed};
-ghost use Rattle.methods.specs.Prepared.{prepared};
-ghost use Rattle.methods.specs.Mark.{noQuestion, method, judged, markTests, mark};
+ghost use Rattle.methods.specs.Mark.{noQuestion, method, markTests, mark};
 ghost use Rattle.meaning.specs.Marked.{Passes};
 ghost use Rattle.meaning.specs.Demand.{Demand};
-ghost use Rattle.positions.specs.Columns.{cols, Sound};
+ghost use Rattle.positions.specs.Columns.{Cols, cols, Sound};
 ghost use Rattle.placing.specs.Searched.{Searched};
 ghost use Rattle.columns.specs.Rows.{Listed};
 ghost use Rattle.columns.specs.Made.{Room};
 ghost use Rattle.joining.specs.Items.{Known};
 ghost use Rattle.searches.specs.Replies.{outcome};
-ghost use Rattle.marker.specs.Called.{Asked};
+ghost use Rattle.marker.specs.Called.{Asked, judgedBy, OfRows};
 
 const ZONES: u64 = 1;
 
@@ -70,11 +69,13 @@ fn search(
     allowance: u64,
     order: &mut [u64],
 ) -> Search
-    requires { ⌜ Sound (cols (now start) (now finish) (now writer) (now last) (now prev)) ⌝ }
-    requires { ⌜ length (now start) ≤ largestCount ⌝ }
-    requires { ⌜ Known (cols (now start) (now finish) (now writer) (now last) (now prev)) ⌝ }
-    requires { ⌜ length (now start) ≤ length (now order) ⌝ }
-    ensures { λ r. ⌜ Searched (cols (now (start .entry)) (now (finish .entry)) (now (writer .entry)) (now (last .entry)) (now (prev .entry))) allowance (method question) (now (order .exit)) r ⌝ }
+    ghost { Cols }
+    requires { λ C. ⌜ cols (now start) (now finish) (now writer) (now last) (now prev) ≡ C ⌝ }
+    requires { λ C. ⌜ Sound C ⌝ }
+    requires { λ C. ⌜ length (now start) ≤ largestCount ⌝ }
+    requires { λ C. ⌜ Known C ⌝ }
+    requires { λ C. ⌜ length (now start) ≤ length (now order) ⌝ }
+    ensures { λ C r. ⌜ Searched C allowance (method question) (now (order .exit)) r ⌝ }
 {
     if question == ZONES {
         return zones::search(start, finish, writer, last, prev, order);
@@ -105,7 +106,7 @@ fn work(
     requires { ⌜ length (now rows) ≤ length (now list) ⌝ }
     requires { ⌜ Asked question ⌝ }
     requires { ⌜ length (now rows) ≤ length (now order) ⌝ }
-    ensures { λ r. ⌜ ((register : ℕ) → Listed (now (table .entry)) register (now (rows .entry)) → outcome r (now (list .exit)) ≡ judged (length (history (now (table .entry)) register)) allowance (now (list .entry)) (method question (prepared (history (now (table .entry)) register)))) ⌝ }
+    ensures { λ r. ⌜ OfRows (now (table .entry)) (now (rows .entry)) question allowance (now (list .entry)) (outcome r (now (list .exit))) ⌝ }
 {
     columns::fill(table, rows, start, finish, writer, last, prev);
     let found = search(
@@ -127,7 +128,7 @@ fn mark_few(table: &[u64], rows: &[u64], question: u64, allowance: u64, list: &m
     requires { ⌜ length (now rows) ≤ 32 ⌝ }
     requires { ⌜ length (now rows) ≤ length (now list) ⌝ }
     requires { ⌜ Asked question ⌝ }
-    ensures { λ r. ⌜ ((register : ℕ) → Listed (now (table .entry)) register (now (rows .entry)) → outcome r (now (list .exit)) ≡ judged (length (history (now (table .entry)) register)) allowance (now (list .entry)) (method question (prepared (history (now (table .entry)) register)))) ⌝ }
+    ensures { λ r. ⌜ OfRows (now (table .entry)) (now (rows .entry)) question allowance (now (list .entry)) (outcome r (now (list .exit))) ⌝ }
 {
     let n = rows.len();
     let mut start = [0u64; FEW];
@@ -157,7 +158,7 @@ fn mark_some(table: &[u64], rows: &[u64], question: u64, allowance: u64, list: &
     requires { ⌜ length (now rows) ≤ 256 ⌝ }
     requires { ⌜ length (now rows) ≤ length (now list) ⌝ }
     requires { ⌜ Asked question ⌝ }
-    ensures { λ r. ⌜ ((register : ℕ) → Listed (now (table .entry)) register (now (rows .entry)) → outcome r (now (list .exit)) ≡ judged (length (history (now (table .entry)) register)) allowance (now (list .entry)) (method question (prepared (history (now (table .entry)) register)))) ⌝ }
+    ensures { λ r. ⌜ OfRows (now (table .entry)) (now (rows .entry)) question allowance (now (list .entry)) (outcome r (now (list .exit))) ⌝ }
 {
     let n = rows.len();
     let mut start = [0u64; SOME];
@@ -187,7 +188,7 @@ fn mark_many(table: &[u64], rows: &[u64], question: u64, allowance: u64, list: &
     requires { ⌜ length (now rows) ≤ largestCount ⌝ }
     requires { ⌜ length (now rows) ≤ length (now list) ⌝ }
     requires { ⌜ Asked question ⌝ }
-    ensures { λ r. ⌜ ((register : ℕ) → Listed (now (table .entry)) register (now (rows .entry)) → outcome r (now (list .exit)) ≡ judged (length (history (now (table .entry)) register)) allowance (now (list .entry)) (method question (prepared (history (now (table .entry)) register)))) ⌝ }
+    ensures { λ r. ⌜ OfRows (now (table .entry)) (now (rows .entry)) question allowance (now (list .entry)) (outcome r (now (list .exit))) ⌝ }
 {
     let n = rows.len();
     let mut start = [0u64; Row::LARGEST_COUNT];
@@ -222,7 +223,7 @@ fn marked_with(
 ) -> Answer
     requires { ⌜ Passes (length (now table)) (history (now table) register) question (now list) ⌝ }
     requires { ⌜ rowCount (now table) ≤ length (now rows) ⌝ }
-    ensures { λ r. ⌜ outcome r (now (list .exit)) ≡ judged (length (history (now (table .entry)) register)) allowance (now (list .entry)) (method question (prepared (history (now (table .entry)) register))) ⌝ }
+    ensures { λ r. ⌜ outcome r (now (list .exit)) ≡ judgedBy (now (table .entry)) register question allowance (now (list .entry)) ⌝ }
 {
     let n = columns::rows_by_start(table, register, rows);
     if n <= FEW {
@@ -237,7 +238,7 @@ fn marked_with(
 // The mark of a register that passes tests 1 to 10.
 fn marked(table: &[u64], register: u64, question: u64, allowance: u64, list: &mut [u64]) -> Answer
     requires { ⌜ Passes (length (now table)) (history (now table) register) question (now list) ⌝ }
-    ensures { λ r. ⌜ outcome r (now (list .exit)) ≡ judged (length (history (now (table .entry)) register)) allowance (now (list .entry)) (method question (prepared (history (now (table .entry)) register))) ⌝ }
+    ensures { λ r. ⌜ outcome r (now (list .exit)) ≡ judgedBy (now (table .entry)) register question allowance (now (list .entry)) ⌝ }
 {
     if table.len() / Row::COLUMNS <= FEW {
         let mut few = [0u64; FEW];

@@ -20,7 +20,7 @@ use Rattle.placing.proofs.Moved.{laid-push}
 
 -- Marks.
 
-pub marks-length : (v : ℕ) (p l : List ℕ) → length (marksWith v p l) ≡ length p
+marks-length : (v : ℕ) (p l : List ℕ) → length (marksWith v p l) ≡ length p
 unfolding marksWith
 marks-length v p [] = refl
 marks-length v p (j ∷ l) = length-set (marksWith v p l) j v ∙ marks-length v p l
@@ -44,7 +44,7 @@ marks-append v p [] b = refl
 marks-append v p (j ∷ a) b = ap (λ (q : List ℕ). set q j v) (marks-append v p a b)
 
 -- each of the listed has the mark, and the others theirs
-pub marks-in : (v : ℕ) (p l : List ℕ) (j : ℕ) → In j l → j < length p → getD (marksWith v p l) j 0 ≡ v
+marks-in : (v : ℕ) (p l : List ℕ) (j : ℕ) → In j l → j < length p → getD (marksWith v p l) j 0 ≡ v
 unfolding marksWith
 marks-in v p (i ∷ l) j (here e) h = let n : i < length (marksWith v p l) = omega (arith, marks-length v p l, e) in rw e (getD-set-same (marksWith v p l) i v 0 n)
 marks-in v p (i ∷ l) j (there m) h = go (test (eqb j i)) (marks-in v p l j m h)
@@ -56,7 +56,7 @@ marks-in v p (i ∷ l) j (there m) h = go (test (eqb j i)) (marks-in v p l j m h
         rw e (getD-set-same (marksWith v p l) i v 0 n)
     go (inr d) k = getD-set-other (marksWith v p l) i j v 0 (eqb-false j i d) ∙ k
 
-pub marks-out : (v : ℕ) (p l : List ℕ) (j : ℕ) → (In j l → ⊥) → getD (marksWith v p l) j 0 ≡ getD p j 0
+marks-out : (v : ℕ) (p l : List ℕ) (j : ℕ) → (In j l → ⊥) → getD (marksWith v p l) j 0 ≡ getD p j 0
 unfolding marksWith
 marks-out v p [] j n = refl
 marks-out v p (i ∷ l) j n = getD-set-other (marksWith v p l) i j v 0 (λ e. n (here e)) ∙ marks-out v p l j (λ m. n (there m))
@@ -75,7 +75,7 @@ marks-free p (i ∷ l) j e = marks-free p l j (go (test (eqb j i)) (below i (len
         absurd (omega (arith, q, ap (λ (x : ℕ). getD (set (marksWith 1 p l) i 1) x 0) (sym (eqb-true j i d)) ∙ e))
 
 -- MARKS THAT WERE FREE, set and cleared: all is as it was
-pub marks-undone : (p l : List ℕ) → ((j : ℕ) → In j l → getD p j 0 ≡ 0) → marksWith 0 (marksWith 1 p l) l ≡ p
+marks-undone : (p l : List ℕ) → ((j : ℕ) → In j l → getD p j 0 ≡ 0) → marksWith 0 (marksWith 1 p l) l ≡ p
 unfolding marksWith
 marks-undone p [] h = refl
 marks-undone p (j ∷ l) h =
@@ -97,6 +97,13 @@ added-none s =
 pub added-top : {s t : State} (m n : ℕ) → Added s t → Added (stateOf (s .placed) (s .order) (s .at) m) (stateOf (t .placed) (t .order) (t .at) n)
 added-top m n a =
     record { ops = a .ops; inside = a .inside; free = a .free; marked = a .marked; cells = a .cells; place = a .place; lays = a .lays }
+
+-- what was added is marked, and no other mark changes
+pub added-in : {s t : State} (a : Added s t) (j : ℕ) → In j (a .ops) → getD (t .placed) j 0 ≡ 1
+added-in {s} a j m = ap (λ (q : List ℕ). getD q j 0) (a .marked) ∙ marks-in 1 (s .placed) (a .ops) j m (a .inside j m)
+
+pub added-out : {s t : State} (a : Added s t) (j : ℕ) → (In j (a .ops) → ⊥) → getD (t .placed) j 0 ≡ getD (s .placed) j 0
+added-out {s} a j n = ap (λ (q : List ℕ). getD q j 0) (a .marked) ∙ marks-out 1 (s .placed) (a .ops) j n
 
 pub added-marks : {s t : State} → Added s t → length (t .placed) ≡ length (s .placed)
 added-marks {s} a = ap length (a .marked) ∙ marks-length 1 (s .placed) (a .ops)
@@ -177,7 +184,7 @@ module _ {s t : State} (a : Added s t) where
             ∙ drop-at (a .ops) (laid s) (length (a .ops)) refl;
       }
 
--- What a state again is.
+-- A state that is kept.
 
 pub kept-none : (s : State) → Kept s (s .placed) (s .order)
 kept-none s = record { marks = refl; cells = refl; lays = refl }

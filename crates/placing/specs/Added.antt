@@ -1,4 +1,4 @@
--- What a search adds to a state, and what a trial that fails leaves of it (02, W-202).
+-- What is added to a state by a scan, a step, a trial or a walk, and what a trial that fails leaves of it (02, W-202).
 -- Assumes nothing.
 use Prim.Native.Nat.{ℕ, _+_, _<_}
 use mathlib.Core.Path.{_≡_}
@@ -22,7 +22,7 @@ pub record Added (s r : State) : Type 0 where
   pub place : r .at + length ops ≡ s .at
   pub lays : ops ++ laid s ≡ laid r
 
--- the marks and the order are those of s again: every mark is as it was, and so is what was laid
+-- every mark is as it was in s, and so is what was laid
 pub record Kept (s : State) (placed order : List ℕ) : Type 0 where
   pub marks : placed ≡ s .placed
   pub cells : length order ≡ length (s .order)

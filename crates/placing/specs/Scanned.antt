@@ -57,7 +57,7 @@ module _ (start writer : List ℕ) (w bound : ℕ) where
     pub kinds : Kinds s 0 asked
     pub asks : Asking s 0 asked
 
-  -- THE CONTRACT of the scan, which has also placed something where it fails
+  -- THE CONTRACT of the scan; where it fails, what it placed before that is added too
   pub data Scanned (s : State) (r : Tried) : Type 0 where
     broke : r .failed ≡ true → Added s (r .state) → Broken s → Scanned s r
     passed : r .failed ≡ false → Passed s (r .state) (r .asked) → Scanned s r

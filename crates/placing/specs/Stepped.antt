@@ -32,7 +32,7 @@ pub record Went (C : Cols) (w : ℕ) (s : State) (r : Tried) : Type 0 where
   pub told : Told C w s (r .asked)
   pub next : (v : ℕ) → r .asked ≡ v + 1 → Whose (C .writer) (r .state) v
 
--- THE CONTRACT of a step, which has also placed something where it fails
+-- THE CONTRACT of a step; where it fails, what it placed before that is added too
 pub data Stepped (C : Cols) (w : ℕ) (s : State) (r : Tried) : Type 0 where
   fails : r .failed ≡ true → Added s (r .state) → Broken (C .start) (C .writer) w (ending C w) s → Stepped C w s r
   goes : r .failed ≡ false → Went C w s r → Stepped C w s r

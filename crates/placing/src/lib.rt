@@ -3,9 +3,9 @@ ghost use mathlib.Core.Path.{_≡_};
 ghost use Prim.Native.Nat.{ℕ, _<_};
 ghost use lib.ListN.{length};
 ghost use Rattle.history.specs.Table.{largestCount};
-ghost use Rattle.positions.specs.Columns.{cols, Linked, Shaped, Sound};
+ghost use Rattle.positions.specs.Columns.{Cols, cols, Linked, Shaped, Sound};
 ghost use Rattle.placing.specs.Rules.{clash, ask};
-ghost use Rattle.placing.specs.States.{stateOf, triedOf, Ready, Holds, Whose};
+ghost use Rattle.placing.specs.States.{State, stateOf, triedOf, Ready, Holds, Whose};
 ghost use Rattle.placing.specs.Scanned.{Scanned};
 ghost use Rattle.placing.specs.Owned.{Owned};
 ghost use Rattle.placing.specs.Stepped.{Stepped};
@@ -19,10 +19,11 @@ pub struct Front {
     pub failed: bool,
 }
 
-// What a search found: no order; an order, which stands at [from..to] of the lent one; or that the allowance was used up.
+// What a search found: no order, after so many trials; an order, which stands in the lent one from the first place to the second, after so many
+// trials; or that the allowance was used up.
 pub enum Search {
-    Stale { trials: u64 },
-    Fresh { from: usize, to: usize, trials: u64 },
+    Stale(u64),
+    Fresh(usize, usize, u64),
     Spent,
 }
 
@@ -62,9 +63,11 @@ fn scan(
     w: u64,
     bound: u64,
 ) -> Front
-    requires { ⌜ Shaped (now start) (now writer) ⌝ }
-    requires { ⌜ Ready (length (now start)) (stateOf (now placed) (now order) at top) ⌝ }
-    ensures { λ r. ⌜ Scanned (now (start .entry)) (now (writer .entry)) w bound (stateOf (now (placed .entry)) (now (order .entry)) at top) (triedOf (now (placed .exit)) (now (order .exit)) r) ⌝ }
+    ghost { State }
+    requires { λ s. ⌜ stateOf (now placed) (now order) at top ≡ s ⌝ }
+    requires { λ s. ⌜ Shaped (now start) (now writer) ⌝ }
+    requires { λ s. ⌜ Ready (length (now start)) s ⌝ }
+    ensures { λ s r. ⌜ Scanned (now (start .entry)) (now (writer .entry)) w bound s (triedOf (now (placed .exit)) (now (order .exit)) r) ⌝ }
 {
     let mut a = at;
     let mut k = top;
@@ -149,10 +152,12 @@ pub fn step(
     top: usize,
     w: usize,
 ) -> Front
-    requires { ⌜ Sound (cols (now start) (now finish) (now writer) (now last) (now prev)) ⌝ }
-    requires { ⌜ Holds (cols (now start) (now finish) (now writer) (now last) (now prev)) (stateOf (now placed) (now order) at top) ⌝ }
-    requires { ⌜ Whose (now writer) (stateOf (now placed) (now order) at top) w ⌝ }
-    ensures { λ r. ⌜ Stepped (cols (now (start .entry)) (now (finish .entry)) (now (writer .entry)) (now (last .entry)) (now (prev .entry))) w (stateOf (now (placed .entry)) (now (order .entry)) at top) (triedOf (now (placed .exit)) (now (order .exit)) r) ⌝ }
+    ghost { Cols × State }
+    requires { λ g. ⌜ (cols (now start) (now finish) (now writer) (now last) (now prev), stateOf (now placed) (now order) at top) ≡ g ⌝ }
+    requires { λ g. ⌜ Sound (g .0) ⌝ }
+    requires { λ g. ⌜ Holds (g .0) (g .1) ⌝ }
+    requires { λ g. ⌜ Whose (g .0 .writer) (g .1) w ⌝ }
+    ensures { λ g r. ⌜ Stepped (g .0) w (g .1) (triedOf (now (placed .exit)) (now (order .exit)) r) ⌝ }
 {
     let bound = finish[w];
     let seen = scan(start, writer, placed, order, at, top, w as u64, bound);

@@ -62,11 +62,11 @@ module _ {C : Cols} {allowance : ℕ} {m : List Op → Result} {H : List Op} (o 
       whole : xs ++ drop (to - from) list ≡ written (rowNumbers (ops H (between places from to))) list
       whole = ap (λ (k : List ℕ). k ++ drop (to - from) list) are ∙ ap (λ (k : ℕ). rowNumbers (ops H (between places from to)) ++ drop k list) long
 
--- What is lent for the rows, the order's part of its array and as many places of the list: the list has the places
+-- the list has the places that are lent for the rows
 pub places-long : (n : ℕ) (list : List ℕ) → n ≤ length list → n ≡ length (take n list)
 places-long n list f = sym (length-take-le n list f)
 
--- they are as many as the positions
+-- these are as many as the positions
 pub same-places : {from to : ℕ} (places list : List ℕ) → (from ≤ to) × (to ≤ length places) × (to - from ≤ length list) →
     length (take (to - from) list) ≡ length (between places from to)
 same-places {from} {to} places list f = sym (places-long (to - from) list (f .2)) ∙ sym (between-long places (f .0) (f .1))

@@ -25,4 +25,5 @@ Fits places list Spent = Unit {0}
 -- the outcome of what was found, whatever the method and the prepared history that it was found by
 abbrev pub Replied : List ℕ → ℕ → List ℕ → Search → List ℕ → Outcome → Type 0
 Replied rows allowance places r list out =
-    (C : Cols) (H : List Op) (m : List Op → Result) → Of C H → rows ≡ rowNumbers H → Searched C allowance m places r → out ≡ judged (length rows) allowance list (m H)
+    (C : Cols) (H : List Op) (m : List Op → Result) → Of C H → rows ≡ rowNumbers H → Searched C allowance m places r →
+    out ≡ judged (length rows) allowance list (m H)

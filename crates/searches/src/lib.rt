@@ -9,7 +9,7 @@ ghost use lib.ListN.{length};
 ghost use Rattle.history.specs.Table.{largestCount};
 ghost use Rattle.methods.specs.Lbt.{lbt};
 ghost use Rattle.methods.specs.Mark.{walked};
-ghost use Rattle.positions.specs.Columns.{cols, Sound};
+ghost use Rattle.positions.specs.Columns.{Cols, cols, Sound};
 ghost use Rattle.placing.specs.States.{isFree};
 ghost use Rattle.placing.specs.Searched.{Searched};
 ghost use Rattle.searches.specs.Replies.{outcome, Fits, Replied};
@@ -29,13 +29,15 @@ fn walk_with(
     placed: &mut [u8],
     order: &mut [u64],
 ) -> Search
-    requires { ⌜ Sound (cols (now start) (now finish) (now writer) (now last) (now prev)) ⌝ }
-    requires { ⌜ length (now start) ≤ largestCount ⌝ }
-    requires { ⌜ length (now writer) ≤ length (now falling) ⌝ }
-    requires { ⌜ length (now start) ≤ length (now placed) ⌝ }
-    requires { ⌜ ((i : ℕ) → i < length (now placed) → isFree (now placed) i ≡ true) ⌝ }
-    requires { ⌜ length (now start) ≤ length (now order) ⌝ }
-    ensures { λ r. ⌜ Searched (cols (now (start .entry)) (now (finish .entry)) (now (writer .entry)) (now (last .entry)) (now (prev .entry))) allowance (λ H. walked (lbt H)) (now (order .exit)) r ⌝ }
+    ghost { Cols }
+    requires { λ C. ⌜ cols (now start) (now finish) (now writer) (now last) (now prev) ≡ C ⌝ }
+    requires { λ C. ⌜ Sound C ⌝ }
+    requires { λ C. ⌜ length (now start) ≤ largestCount ⌝ }
+    requires { λ C. ⌜ length (now writer) ≤ length (now falling) ⌝ }
+    requires { λ C. ⌜ length (now start) ≤ length (now placed) ⌝ }
+    requires { λ C. ⌜ ((i : ℕ) → i < length (now placed) → isFree (now placed) i ≡ true) ⌝ }
+    requires { λ C. ⌜ length (now start) ≤ length (now order) ⌝ }
+    ensures { λ C r. ⌜ Searched C allowance (λ H. walked (lbt H)) (now (order .exit)) r ⌝ }
 {
     // The order is written later, and has the room for the keys until then.
     let m = columns::falls(finish, writer, order, falling);
@@ -62,10 +64,12 @@ fn walk_few(
     allowance: u64,
     order: &mut [u64],
 ) -> Search
-    requires { ⌜ Sound (cols (now start) (now finish) (now writer) (now last) (now prev)) ⌝ }
-    requires { ⌜ length (now start) ≤ 32 ⌝ }
-    requires { ⌜ length (now start) ≤ length (now order) ⌝ }
-    ensures { λ r. ⌜ Searched (cols (now (start .entry)) (now (finish .entry)) (now (writer .entry)) (now (last .entry)) (now (prev .entry))) allowance (λ H. walked (lbt H)) (now (order .exit)) r ⌝ }
+    ghost { Cols }
+    requires { λ C. ⌜ cols (now start) (now finish) (now writer) (now last) (now prev) ≡ C ⌝ }
+    requires { λ C. ⌜ Sound C ⌝ }
+    requires { λ C. ⌜ length (now start) ≤ 32 ⌝ }
+    requires { λ C. ⌜ length (now start) ≤ length (now order) ⌝ }
+    ensures { λ C r. ⌜ Searched C allowance (λ H. walked (lbt H)) (now (order .exit)) r ⌝ }
 {
     let mut falling = [0u64; FEW];
     let mut placed = [0u8; FEW];
@@ -92,10 +96,12 @@ fn walk_many(
     allowance: u64,
     order: &mut [u64],
 ) -> Search
-    requires { ⌜ Sound (cols (now start) (now finish) (now writer) (now last) (now prev)) ⌝ }
-    requires { ⌜ length (now start) ≤ largestCount ⌝ }
-    requires { ⌜ length (now start) ≤ length (now order) ⌝ }
-    ensures { λ r. ⌜ Searched (cols (now (start .entry)) (now (finish .entry)) (now (writer .entry)) (now (last .entry)) (now (prev .entry))) allowance (λ H. walked (lbt H)) (now (order .exit)) r ⌝ }
+    ghost { Cols }
+    requires { λ C. ⌜ cols (now start) (now finish) (now writer) (now last) (now prev) ≡ C ⌝ }
+    requires { λ C. ⌜ Sound C ⌝ }
+    requires { λ C. ⌜ length (now start) ≤ largestCount ⌝ }
+    requires { λ C. ⌜ length (now start) ≤ length (now order) ⌝ }
+    ensures { λ C r. ⌜ Searched C allowance (λ H. walked (lbt H)) (now (order .exit)) r ⌝ }
 {
     let mut falling = [0u64; Row::LARGEST_COUNT];
     let mut placed = [0u8; Row::LARGEST_COUNT];
@@ -122,10 +128,12 @@ pub fn walk(
     allowance: u64,
     order: &mut [u64],
 ) -> Search
-    requires { ⌜ Sound (cols (now start) (now finish) (now writer) (now last) (now prev)) ⌝ }
-    requires { ⌜ length (now start) ≤ largestCount ⌝ }
-    requires { ⌜ length (now start) ≤ length (now order) ⌝ }
-    ensures { λ r. ⌜ Searched (cols (now (start .entry)) (now (finish .entry)) (now (writer .entry)) (now (last .entry)) (now (prev .entry))) allowance (λ H. walked (lbt H)) (now (order .exit)) r ⌝ }
+    ghost { Cols }
+    requires { λ C. ⌜ cols (now start) (now finish) (now writer) (now last) (now prev) ≡ C ⌝ }
+    requires { λ C. ⌜ Sound C ⌝ }
+    requires { λ C. ⌜ length (now start) ≤ largestCount ⌝ }
+    requires { λ C. ⌜ length (now start) ≤ length (now order) ⌝ }
+    ensures { λ C r. ⌜ Searched C allowance (λ H. walked (lbt H)) (now (order .exit)) r ⌝ }
 {
     if start.len() <= FEW {
         return walk_few(start, finish, writer, last, prev, allowance, order);
@@ -146,7 +154,7 @@ pub fn answer(
 {
     let count = rows.len() as u64;
     match found {
-        Search::Stale { trials } => Answer {
+        Search::Stale(trials) => Answer {
             code: Answer::STALE,
             row: 0,
             rows: count,
@@ -158,7 +166,7 @@ pub fn answer(
             rows: 0,
             trials: allowance,
         },
-        Search::Fresh { from, to, trials } => {
+        Search::Fresh(from, to, trials) => {
             let m = to - from;
             columns::rows_at(rows, &order[from..to], &mut list[..m]);
             Answer {

@@ -10,7 +10,7 @@ ghost use Rattle.history.specs.Table.{largestCount};
 ghost use Rattle.methods.specs.Zones.{zones};
 ghost use Rattle.methods.specs.Mark.{untried};
 ghost use Rattle.positions.specs.Places.{Once};
-ghost use Rattle.positions.specs.Columns.{cols, Linked, Sound};
+ghost use Rattle.positions.specs.Columns.{Cols, cols, Linked, Sound};
 ghost use Rattle.placing.specs.States.{isFree, stateOf, Ready};
 ghost use Rattle.placing.specs.Searched.{Searched};
 ghost use Rattle.zones.specs.Zones.{lastBy, Ends, Lates, zoneBy, Zoned, Lows, writesAt, byLow, Inside};
@@ -205,25 +205,23 @@ fn decide(
     placed: &mut [u8],
     order: &mut [u64],
 ) -> Search
-    requires { ⌜ Sound (cols (now start) (now finish) (now writer) (now last) (now prev)) ⌝ }
-    requires { ⌜ length (now start) ≤ largestCount ⌝ }
-    requires { ⌜ Zoned (cols (now start) (now finish) (now writer) (now last) (now prev)) (now late) ⌝ }
-    requires { ⌜ now list ≡ byLow (now finish) (now late) (now writer) ⌝ }
-    requires { ⌜ length (now start) ≤ length (now placed) ⌝ }
-    requires { ⌜ ((i : ℕ) → i < length (now placed) → isFree (now placed) i ≡ true) ⌝ }
-    requires { ⌜ length (now start) ≤ length (now order) ⌝ }
-    ensures { λ r. ⌜ ((allowance : ℕ) → Searched (cols (now (start .entry)) (now (finish .entry)) (now (writer .entry)) (now (last .entry)) (now (prev .entry))) allowance (λ H. untried (zones H)) (now (order .exit)) r) ⌝ }
+    ghost { Cols }
+    requires { λ C. ⌜ cols (now start) (now finish) (now writer) (now last) (now prev) ≡ C ⌝ }
+    requires { λ C. ⌜ Sound C ⌝ }
+    requires { λ C. ⌜ length (now start) ≤ largestCount ⌝ }
+    requires { λ C. ⌜ Zoned C (now late) ⌝ }
+    requires { λ C. ⌜ now list ≡ byLow (now finish) (now late) (now writer) ⌝ }
+    requires { λ C. ⌜ length (now start) ≤ length (now placed) ⌝ }
+    requires { λ C. ⌜ ((i : ℕ) → i < length (now placed) → isFree (now placed) i ≡ true) ⌝ }
+    requires { λ C. ⌜ length (now start) ≤ length (now order) ⌝ }
+    ensures { λ C r. ⌜ ((allowance : ℕ) → Searched C allowance (λ H. untried (zones H)) (now (order .exit)) r) ⌝ }
 {
     if one(finish, late, list) {
         let to = order.len();
         let from = lay(writer, last, prev, list, placed, order, to);
-        return Search::Fresh {
-            from,
-            to,
-            trials: 0,
-        };
+        return Search::Fresh(from, to, 0);
     }
-    Search::Stale { trials: 0 }
+    Search::Stale(0)
 }
 
 // The zone method, where `late` has a place for each operation, the other slices at least as many, and the marks are clean.
@@ -238,14 +236,16 @@ fn search_with(
     placed: &mut [u8],
     order: &mut [u64],
 ) -> Search
-    requires { ⌜ Sound (cols (now start) (now finish) (now writer) (now last) (now prev)) ⌝ }
-    requires { ⌜ length (now start) ≤ largestCount ⌝ }
-    requires { ⌜ length (now late) ≡ length (now start) ⌝ }
-    requires { ⌜ length (now start) ≤ length (now list) ⌝ }
-    requires { ⌜ length (now start) ≤ length (now placed) ⌝ }
-    requires { ⌜ ((i : ℕ) → i < length (now placed) → isFree (now placed) i ≡ true) ⌝ }
-    requires { ⌜ length (now start) ≤ length (now order) ⌝ }
-    ensures { λ r. ⌜ ((allowance : ℕ) → Searched (cols (now (start .entry)) (now (finish .entry)) (now (writer .entry)) (now (last .entry)) (now (prev .entry))) allowance (λ H. untried (zones H)) (now (order .exit)) r) ⌝ }
+    ghost { Cols }
+    requires { λ C. ⌜ cols (now start) (now finish) (now writer) (now last) (now prev) ≡ C ⌝ }
+    requires { λ C. ⌜ Sound C ⌝ }
+    requires { λ C. ⌜ length (now start) ≤ largestCount ⌝ }
+    requires { λ C. ⌜ length (now late) ≡ length (now start) ⌝ }
+    requires { λ C. ⌜ length (now start) ≤ length (now list) ⌝ }
+    requires { λ C. ⌜ length (now start) ≤ length (now placed) ⌝ }
+    requires { λ C. ⌜ ((i : ℕ) → i < length (now placed) → isFree (now placed) i ≡ true) ⌝ }
+    requires { λ C. ⌜ length (now start) ≤ length (now order) ⌝ }
+    ensures { λ C r. ⌜ ((allowance : ℕ) → Searched C allowance (λ H. untried (zones H)) (now (order .exit)) r) ⌝ }
 {
     lates(start, writer, last, late);
     // The order is written later, and has the room for the low ends until then.
@@ -272,10 +272,12 @@ fn search_few(
     prev: &[u64],
     order: &mut [u64],
 ) -> Search
-    requires { ⌜ Sound (cols (now start) (now finish) (now writer) (now last) (now prev)) ⌝ }
-    requires { ⌜ length (now start) ≤ 32 ⌝ }
-    requires { ⌜ length (now start) ≤ length (now order) ⌝ }
-    ensures { λ r. ⌜ ((allowance : ℕ) → Searched (cols (now (start .entry)) (now (finish .entry)) (now (writer .entry)) (now (last .entry)) (now (prev .entry))) allowance (λ H. untried (zones H)) (now (order .exit)) r) ⌝ }
+    ghost { Cols }
+    requires { λ C. ⌜ cols (now start) (now finish) (now writer) (now last) (now prev) ≡ C ⌝ }
+    requires { λ C. ⌜ Sound C ⌝ }
+    requires { λ C. ⌜ length (now start) ≤ 32 ⌝ }
+    requires { λ C. ⌜ length (now start) ≤ length (now order) ⌝ }
+    ensures { λ C r. ⌜ ((allowance : ℕ) → Searched C allowance (λ H. untried (zones H)) (now (order .exit)) r) ⌝ }
 {
     let n = start.len();
     let mut late = [0u64; FEW];
@@ -303,10 +305,12 @@ fn search_many(
     prev: &[u64],
     order: &mut [u64],
 ) -> Search
-    requires { ⌜ Sound (cols (now start) (now finish) (now writer) (now last) (now prev)) ⌝ }
-    requires { ⌜ length (now start) ≤ largestCount ⌝ }
-    requires { ⌜ length (now start) ≤ length (now order) ⌝ }
-    ensures { λ r. ⌜ ((allowance : ℕ) → Searched (cols (now (start .entry)) (now (finish .entry)) (now (writer .entry)) (now (last .entry)) (now (prev .entry))) allowance (λ H. untried (zones H)) (now (order .exit)) r) ⌝ }
+    ghost { Cols }
+    requires { λ C. ⌜ cols (now start) (now finish) (now writer) (now last) (now prev) ≡ C ⌝ }
+    requires { λ C. ⌜ Sound C ⌝ }
+    requires { λ C. ⌜ length (now start) ≤ largestCount ⌝ }
+    requires { λ C. ⌜ length (now start) ≤ length (now order) ⌝ }
+    ensures { λ C r. ⌜ ((allowance : ℕ) → Searched C allowance (λ H. untried (zones H)) (now (order .exit)) r) ⌝ }
 {
     let n = start.len();
     let mut late = [0u64; Row::LARGEST_COUNT];
@@ -334,10 +338,12 @@ pub fn search(
     prev: &[u64],
     order: &mut [u64],
 ) -> Search
-    requires { ⌜ Sound (cols (now start) (now finish) (now writer) (now last) (now prev)) ⌝ }
-    requires { ⌜ length (now start) ≤ largestCount ⌝ }
-    requires { ⌜ length (now start) ≤ length (now order) ⌝ }
-    ensures { λ r. ⌜ ((allowance : ℕ) → Searched (cols (now (start .entry)) (now (finish .entry)) (now (writer .entry)) (now (last .entry)) (now (prev .entry))) allowance (λ H. untried (zones H)) (now (order .exit)) r) ⌝ }
+    ghost { Cols }
+    requires { λ C. ⌜ cols (now start) (now finish) (now writer) (now last) (now prev) ≡ C ⌝ }
+    requires { λ C. ⌜ Sound C ⌝ }
+    requires { λ C. ⌜ length (now start) ≤ largestCount ⌝ }
+    requires { λ C. ⌜ length (now start) ≤ length (now order) ⌝ }
+    ensures { λ C r. ⌜ ((allowance : ℕ) → Searched C allowance (λ H. untried (zones H)) (now (order .exit)) r) ⌝ }
 {
     if start.len() <= FEW {
         return search_few(start, finish, writer, last, prev, order);

@@ -1,5 +1,6 @@
 //! The benchmark: the proved library against the plain implementation, in one process on the same bytes.
-//! `speed [MILLISECONDS]`: how long each batch of calls takes at least (default 2); the best of nine batches counts, taken in turn.
+//! `speed [MILLISECONDS]`: how long each batch of calls takes at least (default 2); the best of nine batches counts, taken in turn. With the feature
+//! `before` an earlier build of the library is timed in the same run.
 
 mod logs;
 mod timing;
@@ -49,8 +50,8 @@ fn sixty(count: usize, random: &mut Random) -> Case {
 const FAMILIES: [(&str, Maker); 9] = [
     ("1 quorum-like", |count, random| one(histories::quorum(count, random))),
     ("2 all concurrent", |count, random| one(histories::concurrent(count, random))),
-    ("3a epochs that fail late", |count, random| one(histories::late_failures(count, random))),
-    ("3b epochs that fail at once", |count, random| one(histories::failures_at_once(count, random))),
+    (trials::FAIL_LATE, |count, random| one(histories::late_failures(count, random))),
+    (trials::FAIL_AT_ONCE, |count, random| one(histories::failures_at_once(count, random))),
     ("4 many chunks", |count, random| one(histories::chunks(count, random))),
     ("5a stale at the end", |count, random| one(histories::stale_at(true, count, random))),
     ("5b stale at the start", |count, random| one(histories::stale_at(false, count, random))),

@@ -1,4 +1,5 @@
-//! What a trial of LBT takes: the marking call with trials enough, less the same call with none, over the trials made.
+//! What a trial of LBT takes: the marking call with trials enough, less the same call with none, over the trials made. Where the register is fresh,
+//! the writing of its order is counted too.
 
 use std::cell::RefCell;
 use std::hint::black_box;
@@ -16,8 +17,12 @@ const LBT: u64 = 2;
 
 type Mark = fn(&[u64], u64, u64, u64, &mut [u64]) -> Answer;
 
-const FAMILIES: [(&str, fn(usize, &mut Random) -> Vec<Row>); 2] =
-    [("3a epochs that fail late", late_failures), ("3b epochs that fail at once", failures_at_once)];
+pub const FAIL_LATE: &str = "3a epochs that fail late";
+pub const FAIL_AT_ONCE: &str = "3b epochs that fail at once";
+
+type Maker = fn(usize, &mut Random) -> Vec<Row>;
+
+const FAMILIES: [(&str, Maker); 2] = [(FAIL_LATE, late_failures), (FAIL_AT_ONCE, failures_at_once)];
 
 /// Prints the times of both; how many answers differ.
 pub fn compare(least: Duration) -> u64 {

@@ -17,40 +17,32 @@ Inv-loop start finish writer last prev turn placed₀ order₀ top n a₀ k₀ i
 abbrev μ-loop : tie.MeasureT-loop
 μ-loop start finish writer last prev turn placed₀ order₀ top n a₀ k₀ i₀ placed order a k i = n - i
 
--- src/lib.rt:69:5
 loop-holds : tie.Need-loop-holds Inv-loop μ-loop
 loop-holds c =
     let q = c .before .before .before .before .before .before .before .before .pre in
     place-none _ (q .0) _ _ (q .1 .0) (q .1 .1)
 
--- src/lib.rt:70:17
 mul-w : tie.Need-mul-w Inv-loop μ-loop
 mul-w c = omega arith
 
--- src/lib.rt:70:17
 shared-slice-read-w : tie.Need-shared-slice-read-w Inv-loop μ-loop
 shared-slice-read-w c = omega arith
 
--- src/lib.rt:71:9
 add-i : tie.Need-add-i Inv-loop μ-loop
 add-i c = omega arith
 
--- src/lib.rt:72:13
 step-requires : tie.Need-step-requires Inv-loop μ-loop
 step-requires c κs =
     let q = c .before .before .before .before .before .before .before .before .before .before .before .before .before .pre in
     let g = c .before .before .before .before .loop .inv in
     (q .0, (g .holds, g .whose _ (omega arith) (omega arith)))
 
--- src/lib.rt:74:13
 same-length : tie.Need-same-length Inv-loop μ-loop
 same-length c = c .before .before .before .before .before .step .kept .1 .1 .1 .1 .1 .0 ∙ added-marks (c .before .before .before .before .before .before .before .before .before .before .loop .inv .added)
 
--- src/lib.rt:74:13
 same-length-2 : tie.Need-same-length-2 Inv-loop μ-loop
 same-length-2 c = c .before .before .before .before .before .step .kept .1 .1 .1 .1 .1 .1 .0 ∙ c .before .before .before .before .before .before .before .before .before .before .loop .inv .added .cells
 
--- src/lib.rt:74:13
 returns : tie.Need-returns Inv-loop μ-loop
 returns c =
     let q = c .before .before .before .before .before .before .before .before .before .before .before .before .before .before .before .before .before .before .before .pre in
@@ -58,25 +50,20 @@ returns c =
     let e = c .before .before .before .before .before .step .ensures in
     (place-fails _ (q .0) _ _ _ _ (omega arith) g _ e (c .if1 .taken) _ _ (c .if1 .taken), place-shrinks _ (q .0) _ _ _ _ (omega arith) g _ e)
 
--- src/lib.rt:78:13
 follows-requires : tie.Need-follows-requires Inv-loop μ-loop
 follows-requires c κs =
     let q = c .before .before .before .before .before .before .before .before .before .before .before .before .before .before .before .before .before .before .before .pre in
     λ j h. omega (arith, q .1 .1 .whose j h .inside, q .1 .0 .ready .size, q .0 .shape .long)
 
--- src/lib.rt:79:13
 ended-requires : tie.Need-ended-requires Inv-loop μ-loop
 ended-requires c κs = search needs
 
--- src/lib.rt:79:13
 same-length-3 : tie.Need-same-length-3 Inv-loop μ-loop
 same-length-3 c = c .before .before .before .before .before .before .before .before .step .kept .1 .1 .1 .1 .1 .0 ∙ added-marks (c .before .before .before .before .before .before .before .before .before .before .before .before .before .loop .inv .added)
 
--- src/lib.rt:79:13
 same-length-4 : tie.Need-same-length-4 Inv-loop μ-loop
 same-length-4 c = c .before .before .before .before .before .before .before .before .step .kept .1 .1 .1 .1 .1 .1 .0 ∙ c .before .before .before .before .before .before .before .before .before .before .before .before .before .loop .inv .added .cells
 
--- src/lib.rt:79:13
 returns-2 : tie.Need-returns-2 Inv-loop μ-loop
 returns-2 c =
     let q = c .before .before .before .before .before .before .before .before .before .before .before .before .before .before .before .before .before .before .before .before .before .before .pre in
@@ -84,11 +71,9 @@ returns-2 c =
     let e = c .before .before .before .before .before .before .before .before .step .ensures in
     (place-clash _ (q .0) _ _ _ _ (omega arith) g _ e (c .before .before .before .if1 .left) (sym (c .before .before .follows .ensures) ∙ not-true _ (c .before .if2 .taken)) _ _ (c .ended .ensures .1), place-shrinks _ (q .0) _ _ _ _ (omega arith) g _ e)
 
--- src/lib.rt:69:5
 loop-less : tie.Need-loop-less Inv-loop μ-loop
 loop-less c = omega arith
 
--- src/lib.rt:69:5
 loop-again : tie.Need-loop-again Inv-loop μ-loop
 loop-again c =
     let q = c .before .before .before .before .before .before .before .before .before .before .before .before .before .before .before .before .before .before .before .before .before .pre in
@@ -96,19 +81,15 @@ loop-again c =
     let e = c .before .before .before .before .before .before .before .step .ensures in
     place-on _ (q .0) _ _ _ _ (omega arith) g (q .1 .1) _ e (c .before .before .if1 .left) (sym (c .before .follows .ensures) ∙ not-false _ (c .if2 .left))
 
--- src/lib.rt:82:5
 ended-requires-2 : tie.Need-ended-requires-2 Inv-loop μ-loop
 ended-requires-2 c κs = search needs
 
--- src/lib.rt:48:1
 same-length-5 : tie.Need-same-length-5 Inv-loop μ-loop
 same-length-5 c = added-marks (c .before .before .loop .inv .added)
 
--- src/lib.rt:48:1
 same-length-6 : tie.Need-same-length-6 Inv-loop μ-loop
 same-length-6 c = c .before .before .loop .inv .added .cells
 
--- src/lib.rt:48:1
 returns-3 : tie.Need-returns-3 Inv-loop μ-loop
 returns-3 c =
     let q = c .before .before .before .before .before .before .before .before .before .before .before .pre in

@@ -10,11 +10,11 @@ use Rattle.lbt.proofs.search.Statement.{statement}
 use Rattle.lbt.proofs.search.Tie as tie
 
 abbrev Inv-loop : tie.InvT-loop
-Inv-loop start finish writer last prev falling allowance placed₀ order₀ n to at₀ top₀ low₀ from₀ trials₀ placed order at top low from trials =
+Inv-loop start finish writer last prev falling allowance placed₀ order₀ to at₀ top₀ low₀ from₀ trials₀ placed order at top low from trials =
     Walking (cols start finish writer last prev) falling allowance (stateOf placed₀ order₀ at₀ top₀) (stateOf placed order at top) low from trials
 
 abbrev μ-loop : tie.MeasureT-loop
-μ-loop start finish writer last prev falling allowance placed₀ order₀ n to at₀ top₀ low₀ from₀ trials₀ placed order at top low from trials =
+μ-loop start finish writer last prev falling allowance placed₀ order₀ to at₀ top₀ low₀ from₀ trials₀ placed order at top low from trials =
     at
 
 loop-holds : tie.Need-loop-holds Inv-loop μ-loop

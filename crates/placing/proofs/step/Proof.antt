@@ -3,34 +3,27 @@ use borrow.Author.Needs.{needs}
 use Rattle.placing.proofs.step.Statement.{statement}
 use Rattle.placing.proofs.step.Tie as tie
 
--- src/lib.rt:169:17
 mul-bound : tie.Need-mul-bound
 mul-bound c = search needs
 
--- src/lib.rt:169:17
 shared-slice-read-bound : tie.Need-shared-slice-read-bound
 shared-slice-read-bound c = search needs
 
--- src/lib.rt:170:9
 scan-requires : tie.Need-scan-requires
 scan-requires c κs = search needs
 
--- src/lib.rt:172:9
 same-length : tie.Need-same-length
 same-length c = search needs
 
--- src/lib.rt:172:9
 same-length-2 : tie.Need-same-length-2
 same-length-2 c = search needs
 
--- src/lib.rt:172:9
 returns : tie.Need-returns
 returns c =
     let q = c .before .before .before .before .before .before .before .before .before .before .before .before .before .before .before .before .pre in
     let e = c .before .before .before .before .before .scan .ensures in
     step-fails _ (q .0) _ _ (q .1 .0) (q .1 .1) _ e (c .if1 .taken)
 
--- src/lib.rt:174:9
 own-requires : tie.Need-own-requires
 own-requires c κs =
     let q = c .before .before .before .before .before .before .before .before .before .before .before .before .before .before .before .before .before .before .pre in
@@ -38,15 +31,12 @@ own-requires c κs =
     let f = c .before .before .if1 .left in
     (q .0 .links, (after-ready _ (q .0) _ _ (q .1 .0) (q .1 .1) _ e f, after-whose _ (q .0) _ _ (q .1 .0) (q .1 .1) _ e f))
 
--- src/lib.rt:151:1
 same-length-3 : tie.Need-same-length-3
 same-length-3 c = search needs
 
--- src/lib.rt:151:1
 same-length-4 : tie.Need-same-length-4
 same-length-4 c = search needs
 
--- src/lib.rt:151:1
 returns-2 : tie.Need-returns-2
 returns-2 c =
     let q = c .before .before .before .before .before .before .before .before .before .before .before .before .before .before .before .before .before .before .before .before .before .before .before .pre in

@@ -5,39 +5,30 @@ use borrow.Author.Needs.{needs}
 use Rattle.screening.proofs.examine_some.Statement.{statement}
 use Rattle.screening.proofs.examine_some.Tie as tie
 
--- src/lib.rt:322:13
 mul-m : tie.Need-mul-m
 mul-m c = search needs
 
--- src/lib.rt:329:9
 array-borrow-prefix-stamps : tie.Need-array-borrow-prefix-stamps
 array-borrow-prefix-stamps c = search needs
 
--- src/lib.rt:329:9
 slice-aggregate-examine-rows : tie.Need-slice-aggregate-examine-rows
 slice-aggregate-examine-rows c = sym (length-take-le _ _ (omega (arith, c .before .before .before .pre .1)))
 
--- src/lib.rt:330:9
 array-borrow-prefix-firsts : tie.Need-array-borrow-prefix-firsts
 array-borrow-prefix-firsts c = search needs
 
--- src/lib.rt:330:9
 slice-aggregate-examine-rows-2 : tie.Need-slice-aggregate-examine-rows-2
 slice-aggregate-examine-rows-2 c = sym (length-take-le _ _ (omega (arith, c .before .before .before .before .pre .1)))
 
--- src/lib.rt:331:9
 array-borrow-prefix-writer : tie.Need-array-borrow-prefix-writer
 array-borrow-prefix-writer c = search needs
 
--- src/lib.rt:331:9
 slice-aggregate-examine-rows-3 : tie.Need-slice-aggregate-examine-rows-3
 slice-aggregate-examine-rows-3 c = sym (length-take-le _ _ (omega (arith, c .before .before .before .before .before .pre .1)))
 
--- src/lib.rt:326:5
 examine-rows-requires : tie.Need-examine-rows-requires
 examine-rows-requires c κs = record { listed = c .before .before .before .before .before .pre .0; room-stamps = length-take-le _ _ (omega (arith, c .before .before .before .before .before .pre .1)); room-firsts = length-take-le _ _ (omega (arith, c .before .before .before .before .before .pre .1)); room-writer = length-take-le _ _ (omega (arith, c .before .before .before .before .before .pre .1)) }
 
--- src/lib.rt:316:1
 returns : tie.Need-returns
 returns c = search needs
 
