@@ -152,6 +152,20 @@ pub fn failures_at_once(count: usize, random: &mut Random) -> Vec<Row> {
     rows
 }
 
+/// The same behind a long write, whose reads are half of the rows and begin after the three reads: it is placed first with them, and each epoch
+/// after it fails at the three reads, which lie below. With `above`, one of the three begins last, above what is placed. At least fifteen rows.
+pub fn failures_behind_reads(above: bool, count: usize, random: &mut Random) -> Vec<Row> {
+    let reads = count / 2;
+    let writes = (count - reads - 4) as u64;
+    let mut rows: Vec<Row> = (1..=writes).map(|value| row(true, value, 1, 2)).collect();
+    rows.extend([1, writes / 2].map(|value| row(false, value, 3, 6)));
+    rows.push(row(false, writes, if above { 5 } else { 3 }, 6));
+    rows.push(row(true, writes + 1, 1, 8));
+    rows.extend((0..reads).map(|_| row(false, writes + 1, 4, 7)));
+    rank(&mut rows, random);
+    rows
+}
+
 /// Chunks, each of one or two forward clusters and two backward ones: the one whose write begins first must go before the forward writes, the
 /// other behind. One in three times the other has the lower low end, so that the second order listed is needed.
 pub fn chunks(count: usize, random: &mut Random) -> Vec<Row> {

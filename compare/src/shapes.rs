@@ -63,6 +63,7 @@ fn shape(count: usize, random: &mut Random) -> Vec<Row> {
         2 if count >= 3 => histories::late_failures(count, random),
         3 if count >= 8 => histories::chunks(count, random),
         4 if count >= 5 => histories::stale_at(random.one_in(2), count, random),
+        5 if count >= 15 && random.one_in(2) => histories::failures_behind_reads(random.one_in(2), count, random),
         5 if count >= 7 => histories::failures_at_once(count, random),
         _ => {
             let reach = [4, 20, 40, 80, 400, 1 << 20][random.below(6) as usize];

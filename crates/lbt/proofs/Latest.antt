@@ -24,10 +24,10 @@ latest-stop Q m (suc n) k h = go (below n m) (λ i. latest-stop Q m n i (λ j a 
     go (inl i) ih = let e : m ≡ suc n = omega arith in rw e
     go (inr i) ih = rw (h n i (omega arith)) (ih i)
 
-latest-out : (Q : ℕ → Bool) (k : ℕ) → 0 < k → Q (k - 1) ≡ false → latest Q k ≡ latest Q (k - 1)
+pub latest-out : (Q : ℕ → Bool) (k : ℕ) → 0 < k → Q (k - 1) ≡ false → latest Q k ≡ latest Q (k - 1)
 latest-out Q k h e = latest-stop Q (k - 1) k (omega arith) (λ j a b. let q : j ≡ k - 1 = omega arith in rw q e)
 
-latest-in : (Q : ℕ → Bool) (k : ℕ) → 0 < k → Q (k - 1) ≡ true → latest Q k ≡ k - 1 + 1
+pub latest-in : (Q : ℕ → Bool) (k : ℕ) → 0 < k → Q (k - 1) ≡ true → latest Q k ≡ k - 1 + 1
 unfolding latest
 latest-in Q k h e = let q : k ≡ suc (k - 1) = omega arith in go k (k - 1) q e
   where

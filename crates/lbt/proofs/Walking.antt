@@ -3,6 +3,7 @@
 use Prim.Native.Nat.{ℕ, zero, suc, _+_, _-_, _≤_, _<_}
 use mathlib.Core.Path.{_≡_, refl, ap, sym, _∙_}
 use mathlib.Core.Bool.{Bool, true, false, cond}
+use mathlib.Core.Logic.{_⊎_, inl, inr}
 use mathlib.Core.List.{List, [], _∷_, _++_, append-assoc, append-nil, List·Memᴰ as In}
 use native.Mathlib.Omega.{arith}
 use lib.ListN.{length, getD, length-drop}
@@ -19,17 +20,17 @@ use Rattle.methods.specs.Mark.{walked}
 use Rattle.witnesses.specs.Histories.{Write}
 use Rattle.witnesses.proofs.Parts.{writes-in}
 use Rattle.walks.proofs.Epochs.{Epoch?, is-placed, epoch?, wins-part}
-use Rattle.positions.specs.Places.{latest}
+use Rattle.positions.specs.Places.{upto, latest}
 use Rattle.positions.specs.Columns.{Cols, size, wr, isOwn, byFinish, Sound, op, ops, Of, Says}
-use Rattle.positions.proofs.Places.{upto-empty}
+use Rattle.positions.proofs.Places.{below, upto-empty, upto-stop}
 use Rattle.positions.proofs.Latest.{latest-le, latest-none, latest-at}
-use Rattle.placing.specs.States.{State, isFree, left, laid, stateOf, Holds, Whose}
+use Rattle.placing.specs.States.{State, isFree, left, laid, stateOf, Ready, Holds, Whose}
 use Rattle.placing.specs.Added.{Added}
 use Rattle.placing.specs.declared.Search.the-variants.{Stale, Fresh, Spent}
 use Rattle.placing.specs.Searched.{between, Searched, is-stale, is-fresh, is-spent as over}
 use Rattle.placing.proofs.Lates.{whose-write}
 use Rattle.placing.proofs.Begun.{begun-laid, begun-holds, begun-left}
-use Rattle.placing.proofs.Adding.{added-none, added-twice, added-shrinks}
+use Rattle.placing.proofs.Adding.{added-none, added-top, added-twice, added-shrinks}
 use Rattle.lbt.specs.declared.Turn.the-variants.{Lost, Won, Spent as TurnSpent}
 use Rattle.lbt.specs.Epochs.{epochOf, Wins}
 use Rattle.lbt.specs.Rounds.{openWrite, Lowest, Skipped, roundOf, tried, Turned, is-lost, is-won, is-spent}
@@ -125,6 +126,53 @@ module _ (C : Cols) (p : Sound C) (n : size C ≤ 1024) (F : List ℕ) (q : F �
               whole = rw (begun-left C p n marks cells m c z H f, begun-laid C p n marks cells m c z) (sym (follow-none _));
             };
       }
+
+  -- a state whose top is lowered to what is left is the same to the walk
+  pub walk-lower : (allowance : ℕ) (s₀ s : State) (low from count : ℕ) → Walking C F allowance s₀ s low from count → (top : ℕ) → top ≡ latest (isFree (s .placed)) (s .top)
+      → Walking C F allowance s₀ (stateOf (s .placed) (s .order) (s .at) top) low from count
+  walk-lower allowance s₀ s low from count g top e =
+      record {
+        added = added-top (s₀ .top) top (g .added);
+        holds =
+            record {
+              ready =
+                  record {
+                    size = r .size;
+                    within = omega (arith, r .within, under);
+                    marks = r .marks;
+                    high = r .high;
+                    room = omega (arith, r .room, ap length same);
+                    above = λ j a b. shut j (below j (s .top)) a b;
+                  };
+              closed = g .holds .closed;
+            };
+        bottom = g .bottom;
+        above = g .above;
+        skipped = g .skipped;
+        small = g .small;
+        ahead =
+            λ H f. record {
+              fuel = g .ahead H f .fuel;
+              enough = rw (sym same) (g .ahead H f .enough);
+              whole = rw (sym same) (g .ahead H f .whole);
+            };
+      }
+    where
+      r : Ready (size C) s
+      r = g .holds .ready
+
+      under : top ≤ s .top
+      under = omega (arith, e, latest-le (isFree (s .placed)) (s .top))
+
+      none : (j : ℕ) → top ≤ j → j < s .top → isFree (s .placed) j ≡ false
+      none j a b = latest-none (isFree (s .placed)) (s .top) j (omega (arith, e)) b
+
+      same : upto (isFree (s .placed)) (s .top) ≡ upto (isFree (s .placed)) top
+      same = upto-stop (isFree (s .placed)) top (s .top) under none
+
+      shut : (j : ℕ) → (j < s .top) ⊎ (s .top ≤ j) → top ≤ j → j < size C → isFree (s .placed) j ≡ false
+      shut j (inl a) b c = none j b a
+      shut j (inr a) b c = r .above j a c
 
   module _ (allowance : ℕ) (s₀ s : State) (low from count : ℕ) (g : Walking C F allowance s₀ s low from count) (next : ℕ) (e : next ≡ latest (openWrite (C .writer) (s .placed)) low) where
     abbrev O : ℕ → Bool

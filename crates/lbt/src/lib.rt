@@ -122,6 +122,22 @@ fn first(falling: &[u64], placed: &[u8], from: usize) -> usize
     i
 }
 
+// One more than the last operation below `top` that is not placed, 0 where there is none: a trial begins there.
+fn highest(placed: &[u8], top: usize) -> usize
+    requires { ⌜ top ≤ length (now placed) ⌝ }
+    ensures { λ r. ⌜ r ≡ latest (isFree (now (placed .entry))) top ⌝ }
+{
+    let mut k = top;
+    while k > 0 {
+        let i = k - 1;
+        if placed[i] == 0 {
+            return k;
+        }
+        k = i;
+    }
+    0
+}
+
 // A round: the epochs of the candidates, by falling finish, until one wins.
 fn round(
     start: &[u64],
@@ -211,6 +227,7 @@ pub fn search(
             return Search::Fresh(at, to, trials);
         }
         from = first(falling, placed, from);
+        top = highest(placed, top);
         let turn = round(
             start,
             finish,

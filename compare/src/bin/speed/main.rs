@@ -47,11 +47,13 @@ fn sixty(count: usize, random: &mut Random) -> Case {
     Case { bytes: file(&rows), registers: (1..=60).collect() }
 }
 
-const FAMILIES: [(&str, Maker); 9] = [
+const FAMILIES: [(&str, Maker); 11] = [
     ("1 quorum-like", |count, random| one(histories::quorum(count, random))),
     ("2 all concurrent", |count, random| one(histories::concurrent(count, random))),
     (trials::FAIL_LATE, |count, random| one(histories::late_failures(count, random))),
     (trials::FAIL_AT_ONCE, |count, random| one(histories::failures_at_once(count, random))),
+    (trials::FAIL_BEHIND, |count, random| one(histories::failures_behind_reads(false, count, random))),
+    (trials::FAIL_BELOW, |count, random| one(histories::failures_behind_reads(true, count, random))),
     ("4 many chunks", |count, random| one(histories::chunks(count, random))),
     ("5a stale at the end", |count, random| one(histories::stale_at(true, count, random))),
     ("5b stale at the start", |count, random| one(histories::stale_at(false, count, random))),

@@ -7,7 +7,7 @@ use std::time::Duration;
 
 use compare::answer::Answer;
 use compare::file::{table_of, Row, MOST_ROWS};
-use compare::histories::{failures_at_once, file_of, late_failures};
+use compare::histories::{failures_at_once, failures_behind_reads, file_of, late_failures};
 use compare::random::Random;
 use compare::{calls, library};
 
@@ -19,10 +19,17 @@ type Mark = fn(&[u64], u64, u64, u64, &mut [u64]) -> Answer;
 
 pub const FAIL_LATE: &str = "3a epochs that fail late";
 pub const FAIL_AT_ONCE: &str = "3b epochs that fail at once";
+pub const FAIL_BEHIND: &str = "3c the same behind reads";
+pub const FAIL_BELOW: &str = "3d the same, one above";
 
 type Maker = fn(usize, &mut Random) -> Vec<Row>;
 
-const FAMILIES: [(&str, Maker); 2] = [(FAIL_LATE, late_failures), (FAIL_AT_ONCE, failures_at_once)];
+const FAMILIES: [(&str, Maker); 4] = [
+    (FAIL_LATE, late_failures),
+    (FAIL_AT_ONCE, failures_at_once),
+    (FAIL_BEHIND, |count, random| failures_behind_reads(false, count, random)),
+    (FAIL_BELOW, |count, random| failures_behind_reads(true, count, random)),
+];
 
 /// Prints the times of both; how many answers differ.
 pub fn compare(least: Duration) -> u64 {
