@@ -16,7 +16,6 @@ static const char *word(uint64_t code)
     case VALGRIST_OVERFULL: return "overfull";
     case VALGRIST_NO_SUCH_QUESTION: return "no such question";
     case VALGRIST_BAD_SPAN: return "bad span";
-    case VALGRIST_SHARED_STAMP: return "shared stamp";
     case VALGRIST_TWIN_WRITE: return "twin write";
     case VALGRIST_ORPHAN_READ: return "orphan read";
     case VALGRIST_EARLY_READ: return "early read";

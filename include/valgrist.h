@@ -20,16 +20,16 @@ enum valgrist_question {
     VALGRIST_FZF = 3    /* is there a valid 2-atomic order? by FZF */
 };
 
-/* The codes. 10 (short list) and 11 (spent) never come from this call; 13, 14 and 15 are the order check's, and 18
- * (header fault) and 19 (unreadable cell) those of logs with named columns, which have no entry for C. */
+/* The codes. 6 (shared stamp) is no longer given, by any call, and its number is not used again: stamps may be equal.
+ * 10 (short list) and 11 (spent) never come from this call; 13, 14 and 15 are the order check's, and 18 (header fault)
+ * and 19 (unreadable cell) those of logs with named columns, which have no entry for C. */
 enum valgrist_code {
     VALGRIST_FRESH = 0,            /* fresh: some order of the register's rows is valid and k-atomic */
     VALGRIST_RAGGED = 1,           /* ragged: a table's length is no multiple of 5; a file gives whole rows or 16 */
     VALGRIST_OVERFULL = 2,         /* overfull: the file has a 1,025th record */
     VALGRIST_NO_SUCH_QUESTION = 3, /* no such question: it is not 1, 2 or 3 */
     VALGRIST_BAD_KIND = 4,         /* bad kind: a row neither writes nor reads; a file gives 17 */
-    VALGRIST_BAD_SPAN = 5,         /* bad span: a start not below its finish, or a finish over 2^62 - 1 */
-    VALGRIST_SHARED_STAMP = 6,     /* shared stamp: a stamp equals one in an earlier row of the register */
+    VALGRIST_BAD_SPAN = 5,         /* bad span: a start above its finish, or a finish over 2^62 - 1 */
     VALGRIST_TWIN_WRITE = 7,       /* twin write: a value was written by an earlier row */
     VALGRIST_ORPHAN_READ = 8,      /* orphan read: no row writes the value that was read */
     VALGRIST_EARLY_READ = 9,       /* early read: the read precedes the write of its value */

@@ -6,7 +6,6 @@ pub const OVERFULL: u64 = 2;
 pub const NO_SUCH_QUESTION: u64 = 3;
 pub const BAD_KIND: u64 = 4;
 pub const BAD_SPAN: u64 = 5;
-pub const SHARED_STAMP: u64 = 6;
 pub const TWIN_WRITE: u64 = 7;
 pub const ORPHAN_READ: u64 = 8;
 pub const EARLY_READ: u64 = 9;

@@ -212,6 +212,14 @@ pub fn stale_at(end: bool, count: usize, random: &mut Random) -> Vec<Row> {
     rows
 }
 
+/// Ranks as a clock with longer ticks would give them: 1 and up, many of them equal.
+pub fn coarsen(rows: &mut [Row], tick: u64) {
+    for row in rows {
+        row.start = 1 + (row.start - 1) / tick;
+        row.finish = 1 + (row.finish - 1) / tick;
+    }
+}
+
 /// Ranks spread at random over all stamps: the gaps are random, and the largest rank is near the largest stamp.
 pub fn spread(rows: &mut [Row], random: &mut Random) {
     let gap = LAST_STAMP / (2 * rows.len() as u64 + 1);

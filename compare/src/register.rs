@@ -1,12 +1,12 @@
-//! The screening of a register's rows, and its operations by start, with doubled stamps and shortened writes, in clusters.
+//! The screening of a register's rows, and its operations by start, with doubled ranks for stamps and shortened writes, in clusters.
 
-use crate::codes::{BAD_SPAN, EARLY_READ, ORPHAN_READ, SHARED_STAMP, TWIN_WRITE};
+use crate::codes::{BAD_SPAN, EARLY_READ, ORPHAN_READ, TWIN_WRITE};
 use crate::file::Row;
 
 /// The largest stamp.
 pub const LAST_STAMP: u64 = (1 << 62) - 1;
 
-/// An operation: stamps are doubled, and a write ends before its reads do. A write is its own cluster's `write`.
+/// An operation: stamps are doubled ranks, and a write ends before its reads do. A write is its own cluster's `write`.
 #[derive(Clone, Copy)]
 pub struct Op {
     pub start: u64,
@@ -45,16 +45,26 @@ impl Register {
         if rows.iter().any(bad_span) {
             return Err(BAD_SPAN);
         }
-        let mut by_start: Vec<(u64, u32)> = rows.iter().zip(0..).map(|(row, at)| (row.start, at)).collect();
-        by_start.sort_unstable_by_key(|&(start, _)| start);
-        if shared_stamp(rows, &by_start) {
-            return Err(SHARED_STAMP);
+        let by_start = sorted(rows.iter().map(|row| row.start));
+        let by_finish = sorted(rows.iter().map(|row| row.finish));
+        let mut ends = vec![0; rows.len()];
+        let mut ahead = 0;
+        for (&(finish, at), place) in by_finish.iter().zip(0u64..) {
+            while ahead < by_start.len() && by_start[ahead].0 <= finish {
+                ahead += 1;
+            }
+            ends[at as usize] = place + ahead as u64;
         }
         let mut ops = Vec::with_capacity(rows.len());
         let mut by_value = Vec::with_capacity(rows.len());
-        for (&(_, at), place) in by_start.iter().zip(0u32..) {
+        let mut below = 0;
+        for (&(start, at), place) in by_start.iter().zip(0u32..) {
+            while below < by_finish.len() && by_finish[below].0 < start {
+                below += 1;
+            }
             let row = &rows[at as usize];
-            ops.push(Op { start: 2 * row.start, finish: 2 * row.finish, cluster: 0, row: row.number, write: row.write });
+            let rank = u64::from(place) + below as u64;
+            ops.push(Op { start: 2 * rank, finish: 2 * ends[at as usize], cluster: 0, row: row.number, write: row.write });
             by_value.push((row.value, u32::from(!row.write) << 31 | place));
         }
         by_value.sort_unstable_by_key(|&(value, key)| u128::from(value) << 64 | u128::from(key));
@@ -132,23 +142,14 @@ impl Register {
     }
 }
 
-/// Whether a row's start is not below its finish, or its finish is too large.
+/// Whether a row's start is above its finish, or its finish is too large.
 pub fn bad_span(row: &Row) -> bool {
-    row.start >= row.finish || row.finish > LAST_STAMP
+    row.start > row.finish || row.finish > LAST_STAMP
 }
 
-/// Whether two of the stamps are equal; no row's own two are.
-fn shared_stamp(rows: &[Row], by_start: &[(u64, u32)]) -> bool {
-    let mut finishes: Vec<u64> = rows.iter().map(|row| row.finish).collect();
-    finishes.sort_unstable();
-    if by_start.windows(2).any(|pair| pair[0].0 == pair[1].0) || finishes.windows(2).any(|pair| pair[0] == pair[1]) {
-        return true;
-    }
-    let mut at = 0;
-    by_start.iter().any(|&(start, _)| {
-        while at < finishes.len() && finishes[at] < start {
-            at += 1;
-        }
-        at < finishes.len() && finishes[at] == start
-    })
+/// Stamps with their places, rising; equal ones by place.
+fn sorted(stamps: impl Iterator<Item = u64>) -> Vec<(u64, u32)> {
+    let mut list: Vec<(u64, u32)> = stamps.zip(0..).collect();
+    list.sort_by_key(|&(stamp, _)| stamp);
+    list
 }

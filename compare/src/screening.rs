@@ -3,7 +3,7 @@
 use std::collections::{HashMap, HashSet};
 
 use crate::answer::Answer;
-use crate::codes::{BAD_SPAN, ORPHAN_READ, SHARED_STAMP, TWIN_WRITE};
+use crate::codes::{BAD_SPAN, ORPHAN_READ, TWIN_WRITE};
 use crate::file::Row;
 use crate::register::{bad_span, Register};
 
@@ -18,7 +18,6 @@ fn lowest(rows: &[Row], code: u64) -> u32 {
     let begun: HashMap<u64, u64> = rows.iter().filter(|row| row.write).map(|row| (row.value, row.start)).collect();
     let found = rows.iter().find(|row| match code {
         BAD_SPAN => bad_span(row),
-        SHARED_STAMP => [row.start, row.finish].iter().any(|&stamp| !seen.insert(stamp)),
         TWIN_WRITE => row.write && !seen.insert(row.value),
         ORPHAN_READ => !row.write && !begun.contains_key(&row.value),
         _ => !row.write && row.finish < begun[&row.value],

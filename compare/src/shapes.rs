@@ -45,6 +45,9 @@ pub fn rows(random: &mut Random) -> Vec<(u64, Row)> {
 /// The rows of one register.
 fn history(count: usize, random: &mut Random) -> Vec<Row> {
     let mut rows = shape(count, random);
+    if !random.one_in(4) {
+        histories::coarsen(&mut rows, 2 + random.below(9));
+    }
     place(&mut rows, random);
     if random.one_in(2) {
         histories::scramble(&mut rows, random);

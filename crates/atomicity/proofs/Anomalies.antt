@@ -88,8 +88,7 @@ module _ (t : List ℕ) (register : ℕ) where
       let three = not-yet _ _ _ two (omega (arith, l)) .1 in
       let four = not-yet _ _ _ three (omega (arith, l)) .1 in
       let five = not-yet _ _ _ four (omega (arith, l)) .1 in
-      let six = not-yet _ _ _ five (omega (arith, l)) .1 in
-      let seven = not-yet _ _ _ six (omega (arith, l)) .1 in
+      let seven = not-yet _ _ _ five (omega (arith, l)) .1 in
       not-yet _ _ _ seven (omega (arith, l))
 
   -- an operation is that of its row

@@ -1,4 +1,4 @@
--- The loop that shortens the doubled finishes, in one pass from the last row up: each read lowers the finish of its write.
+-- The loop that shortens the doubled finishes, in one pass from the last operation up: each read lowers the finish of its write.
 -- Assumes nothing.
 use Prim.Native.Nat.{ℕ, suc, _*_, _-_, _≤_, _<_, min}
 use mathlib.Core.Path.{_≡_, refl, sym, ap, _∙_}
@@ -14,17 +14,16 @@ use borrow.Author.Tests.{eqb-true, eq-eqb, lt-ltb, le-ltb, ltb-true, ltb-false}
 use Rattle.lists.specs.Lists.{put, keep}
 use Rattle.lists.proofs.Tests.{test}
 use Rattle.lists.proofs.Members.{in-keep}
-use Rattle.lists.proofs.Images.{getD-map, getD-in}
+use Rattle.lists.proofs.Images.{getD-map}
 use Rattle.history.specs.declared.Op.{Op}
-use Rattle.history.specs.Table.{opAt, isWrite}
+use Rattle.history.specs.Table.{isWrite}
 use Rattle.methods.specs.Extremes.{least}
 use Rattle.methods.specs.Prepared.{sameValue, noWrite, readsOf, finishesBelow, cutting, shortened, newFinish}
 use Rattle.witnesses.proofs.Extremes.{least-begin}
 use Rattle.preparation.proofs.Finish.{new-read}
-use Rattle.columns.specs.Rows.{Fit}
-use Rattle.writers.specs.Writers.{rowOp}
+use Rattle.positions.specs.Columns.{nothing, op}
 use Rattle.columns.specs.Writers.{Tied}
-use Rattle.columns.specs.Finishes.{lowered, ending}
+use Rattle.columns.specs.Finishes.{lowered, Whole}
 
 -- the smallest does not depend on the number that it is begun with
 least-swap : (key : Op → ℕ) (a b : ℕ) (l : List Op) → min b (least key a l) ≡ min a (least key b l)
@@ -77,42 +76,39 @@ module _ (x y : Op) where
         go true = rw g
         go false = refl
 
-module _ (t rows : List ℕ) where
-  -- the operation of the row at a position
-  abbrev at : ℕ → Op
-  at i = rowOp t rows i
-
+module _ (H : List Op) where
   -- the reads from j on have lowered the finishes of their writes
   pub record Cutting (j : ℕ) (out : List ℕ) : Type 0 where
-    pub within : j ≤ length rows
-    pub long : length out ≡ length rows
-    pub cut : (i : ℕ) → i < length rows → getD out i 0 ≡ newFinish (map (opAt t) (drop j rows)) (at i)
+    pub within : j ≤ length H
+    pub long : length out ≡ length H
+    pub cut : (i : ℕ) → i < length H → getD out i 0 ≡ newFinish (drop j H) (op H i)
 
-  pub cut-none : (out : List ℕ) (j : ℕ) → j ≡ length rows → out ≡ map (λ x. 2 * opAt t x .finish) rows → Cutting j out
+  pub cut-none : (writer out : List ℕ) (j : ℕ) → j ≡ length writer → Whole H writer out → Cutting j out
   unfolding newFinish keep shortened
-  cut-none out j e q =
+  cut-none writer out j e q =
+      let d : j ≡ length H = e ∙ q .tied .long in
       record {
         within = omega arith;
-        long = ap length q ∙ length-map rows _;
-        cut = λ i h. ap (λ (l : List ℕ). getD l i 0) q ∙ getD-map (λ x. 2 * opAt t x .finish) rows i 0 0 h ∙ rw (e, drop-length rows) (go (isWrite (at i)) _);
+        long = ap length (q .doubled) ∙ length-map H _;
+        cut = λ i h. ap (λ (l : List ℕ). getD l i 0) (q .doubled) ∙ getD-map (λ o. 2 * o .finish) H i 0 nothing h ∙ rw (d, drop-length H) (go (isWrite (op H i)) _);
       }
     where
       go : (b : Bool) (n : ℕ) → n ≡ cond b n n
       go true n = refl
       go false n = refl
 
-  pub cut-end : (out : List ℕ) (j : ℕ) → Cutting j out → j ≡ 0 → out ≡ map (ending t rows) rows
+  pub cut-end : (out : List ℕ) (j : ℕ) → Cutting j out → j ≡ 0 → out ≡ map (newFinish H) H
   cut-end out j g e =
-      ext-getD 0 out (map (ending t rows) rows) (g .long ∙ sym (length-map rows _))
-      (λ i h. let k : i < length rows = omega (arith, g .long) in g .cut i k ∙ rw e (sym (getD-map (ending t rows) rows i 0 0 k)))
+      ext-getD 0 out (map (newFinish H) H) (g .long ∙ sym (length-map H _))
+      (λ i h. let k : i < length H = omega (arith, g .long) in g .cut i k ∙ rw e (sym (getD-map (newFinish H) H i 0 nothing k)))
 
-  module _ (writer : List ℕ) (p : Tied t rows writer) (j : ℕ) (h : 0 < j) (out : List ℕ) (g : Cutting j out) where
-    -- the row of this turn
-    inside : j - 1 < length rows
+  module _ (writer : List ℕ) (p : Tied H writer) (j : ℕ) (h : 0 < j) (out : List ℕ) (g : Cutting j out) where
+    -- the operation of this turn
+    inside : j - 1 < length H
     inside = omega (arith, g .within)
 
-    opened : drop (j - 1) rows ≡ getD rows (j - 1) 0 ∷ drop j rows
-    opened = let e : suc (j - 1) ≡ j = omega arith in drop-cons rows (j - 1) 0 inside ∙ rw e
+    opened : drop (j - 1) H ≡ op H (j - 1) ∷ drop j H
+    opened = let e : suc (j - 1) ≡ j = omega arith in drop-cons H (j - 1) nothing inside ∙ rw e
 
     -- it is a write: nothing changes
     pub cut-write : getD writer (j - 1) 0 ≡ j - 1 → Cutting (j - 1) out
@@ -120,38 +116,38 @@ module _ (t rows : List ℕ) where
         record {
           within = omega (arith, g .within);
           long = g .long;
-          cut = λ i k. g .cut i k ∙ rw opened (sym (new-write (at i) (at (j - 1)) _ (rw e at (p .write (j - 1) inside))));
+          cut = λ i k. g .cut i k ∙ rw opened (sym (new-write (op H i) (op H (j - 1)) _ (rw e at (p .write (j - 1) inside))));
         }
 
     module _ (e : getD writer (j - 1) 0 ≢ j - 1) where
-      -- the write of the row
+      -- the write of the operation
       abbrev pub w : ℕ
       w = getD writer (j - 1) 0
 
       -- it is a read, and its own finish is not cut
-      read : isWrite (at (j - 1)) ≡ false
-      read = go (test (isWrite (at (j - 1))))
+      read : isWrite (op H (j - 1)) ≡ false
+      read = go (test (isWrite (op H (j - 1))))
         where
-          go : (isWrite (at (j - 1)) ≡ true) ⊎ (isWrite (at (j - 1)) ≡ false) → isWrite (at (j - 1)) ≡ false
+          go : (isWrite (op H (j - 1)) ≡ true) ⊎ (isWrite (op H (j - 1)) ≡ false) → isWrite (op H (j - 1)) ≡ false
           go (inl q) = absurd (e (p .one (j - 1) (j - 1) inside inside q refl))
           go (inr q) = q
 
-      full : getD out (j - 1) 0 ≡ 2 * at (j - 1) .finish
-      full = g .cut (j - 1) inside ∙ new-read (map (opAt t) (drop j rows)) (at (j - 1)) read
+      full : getD out (j - 1) 0 ≡ 2 * op H (j - 1) .finish
+      full = g .cut (j - 1) inside ∙ new-read (drop j H) (op H (j - 1)) read
 
-      pub cut-positive : Fit t rows → 0 < getD out (j - 1) 0
-      cut-positive s = omega (arith, full, s .spans (getD rows (j - 1) 0) (getD-in rows 0 (j - 1) inside))
+      pub cut-positive : ((i : ℕ) → i < length H → 0 < op H i .finish) → 0 < getD out (j - 1) 0
+      cut-positive s = omega (arith, full, s (j - 1) inside)
 
-      -- the finishes of other rows stay
-      others : (i : ℕ) → i < length rows → i ≢ w → newFinish (map (opAt t) (drop j rows)) (at i) ≡ newFinish (at (j - 1) ∷ map (opAt t) (drop j rows)) (at i)
-      others i k n = go (test (isWrite (at i))) (test (sameValue (at i) (at (j - 1))))
+      -- the finishes of others stay
+      others : (i : ℕ) → i < length H → i ≢ w → newFinish (drop j H) (op H i) ≡ newFinish (op H (j - 1) ∷ drop j H) (op H i)
+      others i k n = go (test (isWrite (op H i))) (test (sameValue (op H i) (op H (j - 1))))
         where
           L : List Op
-          L = map (opAt t) (drop j rows)
+          L = drop j H
 
-          go : (isWrite (at i) ≡ true) ⊎ (isWrite (at i) ≡ false) → (sameValue (at i) (at (j - 1)) ≡ true) ⊎ (sameValue (at i) (at (j - 1)) ≡ false) → newFinish L (at i) ≡ newFinish (at (j - 1) ∷ L) (at i)
-          go (inr a) b = new-read L (at i) a ∙ sym (new-read (at (j - 1) ∷ L) (at i) a)
-          go (inl a) (inr b) = sym (new-other (at i) (at (j - 1)) L b)
+          go : (isWrite (op H i) ≡ true) ⊎ (isWrite (op H i) ≡ false) → (sameValue (op H i) (op H (j - 1)) ≡ true) ⊎ (sameValue (op H i) (op H (j - 1)) ≡ false) → newFinish L (op H i) ≡ newFinish (op H (j - 1) ∷ L) (op H i)
+          go (inr a) b = new-read L (op H i) a ∙ sym (new-read (op H (j - 1) ∷ L) (op H i) a)
+          go (inl a) (inr b) = sym (new-other (op H i) (op H (j - 1)) L b)
           go (inl a) (inl b) = absurd (n (sym (p .one i (j - 1) k inside a (sym (eqb-true _ _ b)))))
 
       -- it lowers the finish of its write
@@ -164,13 +160,13 @@ module _ (t rows : List ℕ) where
           }
         where
           L : List Op
-          L = map (opAt t) (drop j rows)
+          L = drop j H
 
-          go : (i : ℕ) → i < length rows → Dec (i ≡ w) → getD (set out w v) i 0 ≡ newFinish (at (j - 1) ∷ L) (at i)
+          go : (i : ℕ) → i < length H → Dec (i ≡ w) → getD (set out w v) i 0 ≡ newFinish (op H (j - 1) ∷ L) (op H i)
           go i k (no n) = getD-set-other out w i v 0 n ∙ g .cut i k ∙ others i k n
           go i k (yes c) =
               rw c
               (getD-set-same out w v 0 (omega (arith, p .inside (j - 1) inside, g .long))
               ∙ q
               ∙ rw (full, g .cut w (p .inside (j - 1) inside))
-              (sym (new-mine (at w) (at (j - 1)) L (p .write (j - 1) inside) (eq-eqb _ _ (sym (p .value (j - 1) inside))) read)))
+              (sym (new-mine (op H w) (op H (j - 1)) L (p .write (j - 1) inside) (eq-eqb _ _ (sym (p .value (j - 1) inside))) read)))

@@ -1,5 +1,4 @@
 -- The invariants of the loops, with a law for each way through a turn, and that the columns are those of the prepared history.
-pub mod Stamps
 pub mod Gathering
 pub mod Cutting
 pub mod Chained

@@ -8,19 +8,23 @@ use mathlib.Core.List.{List, [], _∷_, map, List·Memᴰ as In}
 use native.Mathlib.Omega.{arith}
 use lib.ListN.{length, getD, length-map}
 use Rattle.lists.specs.Sorts.{sort}
+use Rattle.lists.specs.Pairs.{Pairs}
 use Rattle.lists.proofs.Tests.{test}
 use Rattle.lists.proofs.Maps.{in-map, map-in}
-use Rattle.lists.proofs.Sorts.{in-sort, sort-length}
+use Rattle.lists.proofs.Sorts.{in-sort, sort-length, sort-apart}
 use Rattle.lists.proofs.Images.{sort-map, getD-map, getD-in, pairs-at}
 use Rattle.history.specs.declared.Op.{Op}
 use Rattle.history.specs.Table.{largestCount, opAt, rowsOf, history, isWrite}
 use Rattle.history.proofs.Rows.{in-rows, history-count, rows-few}
 use Rattle.methods.specs.Prepared.{startsFirst, byStart}
 use Rattle.methods.specs.Mark.{rowNumbers}
-use Rattle.preparation.proofs.Timed.{Timed, timed, from-sorted}
+use Rattle.witnesses.specs.Histories.{Apart, Proper}
+use Rattle.preparation.proofs.Timed.{screened-proper, from-sorted, into-sorted}
 use Rattle.preparation.proofs.Rows.{history-rows}
 use Rattle.positions.proofs.Places.{below}
-use Rattle.columns.specs.Rows.{Listed, Fit}
+use Rattle.positions.specs.Columns.{nothing, op}
+use Rattle.ranking.specs.Ranked.{Fit, Stands}
+use Rattle.columns.specs.Rows.{Listed}
 use Rattle.writers.specs.Writers.{writesAt, writerOf, rowOp}
 use Rattle.writers.proofs.Seeking.{writes-is, is-writes, seek-in}
 use Rattle.columns.specs.Writers.{Tied}
@@ -59,10 +63,14 @@ module _ {t : List ℕ} {register : ℕ} {rows : List ℕ} (g : Listed t registe
   pub listed-ops : byStart (history t register) ≡ map (opAt t) rows
   listed-ops = sorted-ops t register ∙ ap (map (opAt t)) (sym rows-are)
 
-  pub listed-timed : Timed (map (opAt t) rows)
-  listed-timed = rw listed-ops at (timed (g .screened) (history-rows t register))
+  -- the register's history, as the screening leaves it
+  proper : Proper (history t register)
+  proper = screened-proper (g .screened) (history-rows t register)
 
-  in-history : {x : ℕ} → In x rows → In (opAt t x) (history t register)
+  pub listed-stands : Stands t rows (history t register)
+  listed-stands = record { rise = history-rows t register; sorted = listed-ops }
+
+  pub in-history : {x : ℕ} → In x rows → In (opAt t x) (history t register)
   in-history {x} m = from-sorted (opAt t x) (rw listed-ops (map-in (opAt t) m))
 
   pub listed-fit : Fit t rows
@@ -85,21 +93,25 @@ module _ {t : List ℕ} {register : ℕ} {rows : List ℕ} (g : Listed t registe
       go : (isWrite (opAt t x) ≡ true) ⊎ (isWrite (opAt t x) ≡ false) → (y : ℕ) × In y rows × (writesAt t (opAt t x .value) y ≡ true)
       go (inl e) = (x, m, is-writes (opAt t x .value) (opAt t x) e refl)
       go (inr e) =
-          let d = listed-timed .proper .dict (opAt t x) (map-in (opAt t) m) e in
-          let y = in-map (opAt t) rows (d .1 .by .mem) in
+          let d = proper .dict (opAt t x) (in-history m) e in
+          let y = in-map (opAt t) rows (rw listed-ops at (into-sorted (d .0) (d .1 .by .mem))) in
           (y .0, y .1, is-writes (opAt t x .value) (opAt t (y .0)) (ap isWrite (sym (y .2)) ∙ d .1 .by .write) (ap (λ o. o .value) (sym (y .2)) ∙ d .1 .same))
 
-  -- an operation stands at one position
+  -- the rows differ, so an operation stands at one position
+  apart : Pairs Apart (map (opAt t) rows)
+  unfolding byStart
+  apart = rw listed-ops at (sort-apart startsFirst Apart (λ x y d e. d (sym e)) (proper .rows))
+
   at-one : (i j : ℕ) → i < length rows → j < length rows → rowOp t rows i ≡ rowOp t rows j → i ≡ j
   at-one i j h k e = go (below i j) (below j i)
     where
-      start : (a : ℕ) → a < length rows → getD (map (opAt t) rows) a (opAt t 0) .start ≡ rowOp t rows a .start
-      start a l = ap (λ (o : Op). o .start) (getD-map (opAt t) rows a (opAt t 0) 0 l)
+      row : (a : ℕ) → a < length rows → getD (map (opAt t) rows) a (opAt t 0) .row ≡ rowOp t rows a .row
+      row a l = ap (λ (o : Op). o .row) (getD-map (opAt t) rows a (opAt t 0) 0 l)
 
       no : (a b : ℕ) → a < b → b < length rows → rowOp t rows a ≡ rowOp t rows b → ⊥
       no a b l m q =
-          let r = pairs-at (opAt t 0) (listed-timed .rising) a b l (omega (arith, length-map rows (opAt t))) in
-          omega (arith, ap (λ (x : Op). x .start) q, start a (omega arith), start b m)
+          pairs-at (opAt t 0) apart a b l (omega (arith, length-map rows (opAt t)))
+          (row a (omega arith) ∙ ap (λ (x : Op). x .row) q ∙ sym (row b m))
 
       go : (i < j) ⊎ (j ≤ i) → (j < i) ⊎ (i ≤ j) → i ≡ j
       go (inl l) d = absurd (no i j l k e)
@@ -110,27 +122,43 @@ module _ {t : List ℕ} {register : ℕ} {rows : List ℕ} (g : Listed t registe
       → rowOp t rows i .value ≡ rowOp t rows k .value → i ≡ k
   only i k h l a b e =
       at-one i k h l
-      (listed-timed .proper .one (rowOp t rows i) (rowOp t rows k)
-      (record { mem = map-in (opAt t) (getD-in rows 0 i h); write = a })
-      (record { mem = map-in (opAt t) (getD-in rows 0 k l); write = b }) e)
+      (proper .one (rowOp t rows i) (rowOp t rows k)
+      (record { mem = in-history (getD-in rows 0 i h); write = a })
+      (record { mem = in-history (getD-in rows 0 k l); write = b }) e)
 
-  pub listed-tied : Tied t rows (map (writerOf t rows) rows)
-  listed-tied =
-      record {
-        long = length-map rows _;
-        inside = λ j h. rw (at j h) (found j h .0);
-        write = λ j h. rw (at j h) (is j h .0);
-        value = λ j h. rw (at j h) (is j h .1);
-        one = λ i j h k e f. at j k ∙ sym (only i (writerOf t rows (getD rows j 0)) h (found j k .0) e (is j k .0) (f ∙ sym (is j k .1)));
-      }
-    where
-      at : (j : ℕ) → j < length rows → getD (map (writerOf t rows) rows) j 0 ≡ writerOf t rows (getD rows j 0)
-      at j h = getD-map (writerOf t rows) rows j 0 0 h
+  -- THE WRITERS of the rows' operations, with whatever stamps
+  module _ (f : ℕ → Op) (kind : (x : ℕ) → isWrite (f x) ≡ isWrite (opAt t x)) (value : (x : ℕ) → f x .value ≡ opAt t x .value) where
+    pub listed-tied : Tied (map f rows) (map (writerOf t rows) rows)
+    listed-tied =
+        record {
+          long = length-map rows _ ∙ sym size;
+          inside = λ j h. let l = under j h in rw (at j l, size) (found j l .0);
+          write = λ j h. let l = under j h in rw (at j l, here (writerOf t rows (getD rows j 0)) (found j l .0), kind _) (is j l .0);
+          value = λ j h. let l = under j h in rw (at j l, here (writerOf t rows (getD rows j 0)) (found j l .0), here j l, value _, value _) (is j l .1);
+          one = λ i j h k e d.
+              let a = under i h in
+              let b = under j k in
+              at j b
+              ∙ sym (only i (writerOf t rows (getD rows j 0)) a (found j b .0) (sym (kind _) ∙ ap isWrite (sym (here i a)) ∙ e) (is j b .0)
+              (sym (value _) ∙ ap (λ o. o .value) (sym (here i a)) ∙ d ∙ ap (λ o. o .value) (here j b) ∙ value _ ∙ sym (is j b .1)));
+        }
+      where
+        size : length (map f rows) ≡ length rows
+        size = length-map rows f
 
-      found : (j : ℕ) → j < length rows
-          → (writerOf t rows (getD rows j 0) < length rows) × (writesAt t (rowOp t rows j .value) (getD rows (writerOf t rows (getD rows j 0)) 0) ≡ true)
-      found j h = let y = has-write (getD rows j 0) (getD-in rows 0 j h) in seek-in (writesAt t (rowOp t rows j .value)) rows (y .1) (y .2)
+        under : (j : ℕ) → j < length (map f rows) → j < length rows
+        under j h = omega (arith, size)
 
-      is : (j : ℕ) → j < length rows
-          → (isWrite (rowOp t rows (writerOf t rows (getD rows j 0))) ≡ true) × (rowOp t rows (writerOf t rows (getD rows j 0)) .value ≡ rowOp t rows j .value)
-      is j h = writes-is (rowOp t rows j .value) (rowOp t rows (writerOf t rows (getD rows j 0))) (found j h .1)
+        here : (j : ℕ) → j < length rows → op (map f rows) j ≡ f (getD rows j 0)
+        here j h = getD-map f rows j nothing 0 h
+
+        at : (j : ℕ) → j < length rows → getD (map (writerOf t rows) rows) j 0 ≡ writerOf t rows (getD rows j 0)
+        at j h = getD-map (writerOf t rows) rows j 0 0 h
+
+        found : (j : ℕ) → j < length rows
+            → (writerOf t rows (getD rows j 0) < length rows) × (writesAt t (rowOp t rows j .value) (getD rows (writerOf t rows (getD rows j 0)) 0) ≡ true)
+        found j h = let y = has-write (getD rows j 0) (getD-in rows 0 j h) in seek-in (writesAt t (rowOp t rows j .value)) rows (y .1) (y .2)
+
+        is : (j : ℕ) → j < length rows
+            → (isWrite (rowOp t rows (writerOf t rows (getD rows j 0))) ≡ true) × (rowOp t rows (writerOf t rows (getD rows j 0)) .value ≡ rowOp t rows j .value)
+        is j h = writes-is (rowOp t rows j .value) (rowOp t rows (writerOf t rows (getD rows j 0))) (found j h .1)

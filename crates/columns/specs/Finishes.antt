@@ -1,24 +1,21 @@
--- The stamps of an operation, and the shortened, doubled finishes.
+-- The doubled finishes, as they are and shortened (document 01, "Doubled stamps"; 02, W-203: of the ranks).
 -- Assumes nothing.
-use Prim.Native.Nat.{ℕ, _-_}
+use Prim.Native.Nat.{ℕ, _*_, _-_, _<_}
+use mathlib.Core.Path.{_≡_}
 use mathlib.Core.Bool.{cond}
 use mathlib.Core.List.{List, map}
 use lib.Dec.{ltb}
+use lib.ListN.{length}
 use Rattle.history.specs.declared.Op.{Op}
-use Rattle.history.specs.Table.{opAt}
-use Rattle.methods.specs.Prepared.{newFinish}
-use Rattle.columns.specs.declared.Stamp.{Stamp}
-use Rattle.columns.specs.declared.Stamp.the-variants.{Start, Finish}
-
--- one of the two stamps of an operation
-abbrev pub stampOf : Stamp → Op → ℕ
-stampOf Start o = o .start
-stampOf Finish o = o .finish
+use Rattle.positions.specs.Columns.{op}
+use Rattle.columns.specs.Writers.{Tied}
 
 -- a write's finish after one of its reads: one below the read's, where that is lower
 unfoldable pub lowered : ℕ → ℕ → ℕ
 lowered end finish = cond (ltb end finish) (end - 1) finish
 
--- the finish of a row among the rows
-abbrev pub ending : List ℕ → List ℕ → ℕ → ℕ
-ending t rows x = newFinish (map (opAt t) rows) (opAt t x)
+-- the columns of writers and of doubled finishes of H, none of them shortened
+pub record Whole (H : List Op) (writer finish : List ℕ) : Type 0 where
+  pub tied : Tied H writer
+  pub above : (j : ℕ) → j < length H → 0 < op H j .finish
+  pub doubled : finish ≡ map (λ o. 2 * o .finish) H

@@ -3,16 +3,16 @@ use history::Op;
 use history::Row;
 ghost use mathlib.Core.Path.{_≡_};
 ghost use mathlib.Core.List.{List, map};
-ghost use Prim.Native.Nat.{ℕ, _*_, _≤_, _<_};
+ghost use Prim.Native.Nat.{ℕ, _≤_, _<_};
 ghost use lib.ListN.{length, getD, take};
 ghost use Rattle.history.specs.Table.{largestCount, rowCount, opAt, bears, history};
-ghost use Rattle.methods.specs.Prepared.{byStart};
+ghost use Rattle.history.specs.declared.Op.{Op as Operation};
+ghost use Rattle.methods.specs.Prepared.{byStart, newFinish};
 ghost use Rattle.methods.specs.Mark.{rowNumbers, written};
 ghost use Rattle.positions.specs.Columns.{cols, isOwn, Linked};
 ghost use Rattle.columns.specs.Gathered.{Gathered};
-ghost use Rattle.columns.specs.Rows.{Listed, Fit};
-ghost use Rattle.columns.specs.Writers.{Tied};
-ghost use Rattle.columns.specs.Finishes.{stampOf, lowered, ending};
+ghost use Rattle.columns.specs.Rows.{Listed};
+ghost use Rattle.columns.specs.Finishes.{lowered, Whole};
 ghost use Rattle.columns.specs.Made.{Room, Made};
 ghost use Rattle.columns.specs.Falls.{fallingOf, Turned};
 
@@ -75,35 +75,6 @@ pub fn rows_by_start(table: &[u64], register: u64, rows: &mut [u64]) -> usize
     rows_with(table, register, &mut keys, rows)
 }
 
-// One of the two stamps of an operation.
-enum Stamp {
-    Start,
-    Finish,
-}
-
-fn stamp_of(o: Op, which: Stamp) -> u64
-    ensures { λ r. ⌜ r ≡ stampOf which o ⌝ }
-{
-    match which {
-        Stamp::Start => o.start,
-        Stamp::Finish => o.finish,
-    }
-}
-
-// The doubled starts, or finishes.
-fn doubled(table: &[u64], rows: &[u64], which: Stamp, out: &mut [u64])
-    requires { ⌜ length (now out) ≡ length (now rows) ⌝ }
-    requires { ⌜ Fit (now table) (now rows) ⌝ }
-    ensures { λ _. ⌜ now (out .exit) ≡ map (λ x. 2 * stampOf which (opAt (now (table .entry)) x)) (now (rows .entry)) ⌝ }
-{
-    let mut i: usize = 0;
-    while i < rows.len() {
-        let one = stamp_of(Op::at(table, rows[i] as usize), which);
-        out[i] = 2 * one;
-        i += 1;
-    }
-}
-
 // A write's finish after one of its reads: one below the read's, where that is lower.
 fn lowered(end: u64, finish: u64) -> u64
     requires { ⌜ 0 < end ⌝ }
@@ -112,23 +83,20 @@ fn lowered(end: u64, finish: u64) -> u64
     if end < finish { end - 1 } else { finish }
 }
 
-// The doubled finishes; a write that finishes after one of its reads finishes just before it.
-fn finishes(table: &[u64], rows: &[u64], writer: &[u64], out: &mut [u64])
-    requires { ⌜ length (now out) ≡ length (now rows) ⌝ }
-    requires { ⌜ Fit (now table) (now rows) ⌝ }
-    requires { ⌜ Tied (now table) (now rows) (now writer) ⌝ }
-    ensures { λ _. ⌜ now (out .exit) ≡ map (ending (now (table .entry)) (now (rows .entry))) (now (rows .entry)) ⌝ }
+// The doubled finishes, shortened: a write that finishes after one of its reads finishes just before it.
+fn shorten(writer: &[u64], finish: &mut [u64])
+    requires { ⌜ ((H : List Operation) × Whole H (now writer) (now finish)) ⌝ }
+    ensures { λ _. ⌜ ((H : List Operation) → Whole H (now (writer .entry)) (now (finish .entry)) → now (finish .exit) ≡ map (newFinish H) H) ⌝ }
 {
-    doubled(table, rows, Stamp::Finish, out);
     let mut j = writer.len();
     while j > 0 {
         j -= 1;
         let at = j;
         let w = writer[at] as usize;
         if w != at {
-            let end = out[at];
-            let old = out[w];
-            out[w] = lowered(end, old);
+            let end = finish[at];
+            let old = finish[w];
+            finish[w] = lowered(end, old);
         }
     }
 }
@@ -169,9 +137,9 @@ pub fn fill(
     requires { ⌜ ((register : ℕ) × Listed (now table) register (now rows)) ⌝ }
     ensures { λ _. ⌜ Made (now (table .entry)) (now (rows .entry)) (cols (now (start .exit)) (now (finish .exit)) (now (writer .exit)) (now (last .exit)) (now (prev .exit))) ⌝ }
 {
-    doubled(table, rows, Stamp::Start, start);
+    ranking::ranks(table, rows, prev, start, finish);
     writers::writers(table, rows, writer);
-    finishes(table, rows, writer, finish);
+    shorten(writer, finish);
     writers::clear(last);
     link(writer, last, prev);
 }

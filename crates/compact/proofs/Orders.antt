@@ -11,7 +11,7 @@ use Rattle.lists.proofs.Maps.{in-map, map-in}
 use Rattle.history.specs.declared.Op.{Op}
 use Rattle.history.specs.Table.{isWrite}
 use Rattle.witnesses.specs.Orders.{Runs, run-nil, run-write, run-read, Orders}
-use Rattle.preparation.proofs.Timed.{RowsRise}
+use Rattle.preparation.specs.Claims.{RowsRise}
 use Rattle.compact.specs.Renumbered.{renumbered, Keeps}
 
 -- a row has one operation

@@ -10,10 +10,10 @@ use native.Mathlib.Nat.{eq-or-lt-of-le}
 use borrow.Author.Tests.{ltb-true, ltb-false, lt-ltb, le-ltb}
 use lib.Dec.{ltb, eqb}
 use lib.ListN.{length, getD}
-use Rattle.lists.specs.Lists.{put, keep, upTo}
-use Rattle.lists.proofs.Members.{in-keep, keep-ext, map-ext}
+use Rattle.lists.specs.Lists.{keep, upTo}
+use Rattle.lists.proofs.Members.{in-keep, keep-all, keep-ext, map-ext}
 use Rattle.lists.proofs.Maps.{in-map}
-use Rattle.lists.proofs.Images.{getD-in, pairs-at}
+use Rattle.lists.proofs.Images.{map-twice, getD-in, pairs-at}
 use Rattle.lists.proofs.Pairs.{pairs-keep}
 use Rattle.lists.proofs.Ranges.{in-below, from-rises, at-each}
 use Rattle.history.specs.Table.{rowAt, rowCount, operation, opAt, bears, rowsOf, history}
@@ -27,15 +27,6 @@ use Rattle.selection.proofs.Selecting.{flat-places}
 use Rattle.selection.proofs.Loaded.{length-register, register-few}
 use Rattle.compact.specs.Renumbered.{renumbered, Keeps}
 use Rattle.compact.proofs.Codes.{same-code}
-
-map-map : {A B C : Type 0} (f : A → B) (g : B → C) (l : List A) → map g (map f l) ≡ map (λ x. g (f x)) l
-map-map f g [] = refl
-map-map {C = C} f g (x ∷ l) = ap (λ (z : List C). g (f x) ∷ z) (map-map f g l)
-
-keep-all : (p : ℕ → Bool) (l : List ℕ) → ((x : ℕ) → In x l → p x ≡ true) → keep p l ≡ l
-unfolding keep put
-keep-all p [] h = refl
-keep-all p (x ∷ l) h = rw (h x (here refl), keep-all p l (λ y m. h y (there m))) refl
 
 module _ (bs : List ℕ) (register : ℕ) where
   abbrev rows : List ℕ
@@ -94,9 +85,9 @@ module _ (bs : List ℕ) (register : ℕ) where
   unfolding history
   same-history =
       ap (map (opAt t)) (table-rows ∙ sym (at-each rows))
-      ∙ map-map nth (opAt t) (upTo m)
+      ∙ map-twice (opAt t) nth (upTo m)
       ∙ map-ext (λ j. opAt t (nth j)) (λ j. renumbered nth (opAt u j)) (upTo m) (λ j l. same-op j (in-below m l))
-      ∙ sym (map-map (opAt u) (renumbered nth) (upTo m))
+      ∙ sym (map-twice (renumbered nth) (opAt u) (upTo m))
       ∙ ap (λ l. map (renumbered nth) (map (opAt u) l)) (sym part-rows)
 
   nth-rise : (i j : ℕ) → i < j → j < m → nth i < nth j

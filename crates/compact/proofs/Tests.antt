@@ -15,7 +15,7 @@ use Rattle.history.specs.declared.Op.{Op}
 use Rattle.history.specs.declared.Answer.{Answer}
 use Rattle.history.specs.Table.{largestCount, isWrite, isRead, precedes, dictates}
 use Rattle.history.specs.Answer.{number, Test, lowestRow, refusedOr, firstMet}
-use Rattle.history.specs.Screen.{wrongKind, wrongSpan, shares, sharesStamp, repeats, rewrites, dictatedBy, unwritten, precedesWrite, tooEarly, tests}
+use Rattle.history.specs.Screen.{wrongKind, wrongSpan, repeats, rewrites, dictatedBy, unwritten, precedesWrite, tooEarly, tests}
 use Rattle.methods.specs.Mark.{markTests}
 use Rattle.compact.specs.Renumbered.{renumbered, Keeps}
 
@@ -76,10 +76,6 @@ module _ (f : ℕ → ℕ) (h : List Op) (keeps : Keeps f h) where
   unfolding wrongSpan
   span-same o m = refl
 
-  stamp-same : (o : Op) → In o h → sharesStamp (map g h) (g o) ≡ sharesStamp h o
-  unfolding sharesStamp shares
-  stamp-same o m = some-same (shares (g o)) (shares o) (λ e n. rw (keeps e o n m) refl)
-
   twin-same : (o : Op) → In o h → rewrites (map g h) (g o) ≡ rewrites h o
   unfolding rewrites repeats isWrite
   twin-same o m = ap (λ b. isWrite o && b) (some-same (repeats (g o)) (repeats o) (λ e n. rw (keeps e o n m) refl))
@@ -110,13 +106,10 @@ module _ (f : ℕ → ℕ) (h : List Op) (keeps : Keeps f h) where
               (
                 (refl, lowest-same wrongSpan wrongSpan span-same),
                 (
-                  (refl, lowest-same (sharesStamp (map g h)) (sharesStamp h) stamp-same),
+                  (refl, lowest-same (rewrites (map g h)) (rewrites h) twin-same),
                   (
-                    (refl, lowest-same (rewrites (map g h)) (rewrites h) twin-same),
-                    (
-                      (refl, lowest-same (unwritten (map g h)) (unwritten h) orphan-same),
-                      ((refl, lowest-same (tooEarly (map g h)) (tooEarly h) early-same), ((refl, rw (length-map h g) refl), tt)),
-                    ),
+                    (refl, lowest-same (unwritten (map g h)) (unwritten h) orphan-same),
+                    ((refl, lowest-same (tooEarly (map g h)) (tooEarly h) early-same), ((refl, rw (length-map h g) refl), tt)),
                   ),
                 ),
               ),

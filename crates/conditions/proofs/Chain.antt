@@ -1,4 +1,4 @@
--- Tests 4 to 9 as the code runs them: a chain of the six.
+-- Tests 4 to 9 as the code runs them: a chain of the five.
 -- Assumes nothing.
 use Prim.Native.Nat.{ℕ, _<_}
 use mathlib.Core.Path.{_≡_, refl, ap, sym, _∙_}
@@ -19,10 +19,11 @@ use Rattle.history.specs.declared.Answer.{Answer}
 use Rattle.history.specs.Table.{opAt}
 use Rattle.history.specs.Answer.{Code, number, Test, test, refusedOr, firstMet, passed, lowestRow}
 use Rattle.history.proofs.Refusals.{Coded, orTest, chained, met-chained}
+use Rattle.writers.specs.Writers.{writerOf}
 use Rattle.conditions.specs.declared.RowTest.{RowTest}
-use Rattle.conditions.specs.declared.RowTest.the-variants.{Kind, Span, Shared, Twin, Orphan, Early}
-use Rattle.conditions.specs.Tests.{condition, rowTests, shows, lowestAt, shownTest, Quiet, Listed, Filled}
-use Rattle.conditions.proofs.Shows.{lowest-is, shared-is, twin-is, orphan-is, early-is}
+use Rattle.conditions.specs.declared.RowTest.the-variants.{Kind, Span, Twin, Orphan, Early}
+use Rattle.conditions.specs.Tests.{condition, rowTests, shows, lowestAt, shownTest, Quiet, Listed}
+use Rattle.conditions.proofs.Shows.{lowest-is, twin-is, orphan-is, early-is}
 
 coded : (h : List Op) → Coded (rowTests h)
 unfolding rowTests
@@ -47,7 +48,7 @@ or-same a c f g h = go (eqb (a .code) 0) refl
     go true q = ap (λ (x : Found). refusedOr c x a) (h (eqb-true (a .code) 0 q))
     go false q = refl
 
-module _ (t rows stamps firsts writer : List ℕ) (g : Listed t rows) (f : Filled t rows stamps firsts writer) where
+module _ (t rows writer : List ℕ) (g : Listed t rows) (f : writer ≡ map (writerOf t rows) rows) where
   abbrev h : List Op
   h = map (opAt t) rows
 
@@ -63,23 +64,20 @@ module _ (t rows stamps firsts writer : List ℕ) (g : Listed t rows) (f : Fille
   unfolding shows condition
   span-same column = lowest-is t rows (shows Span t rows column) (condition Span h) (λ i l. refl)
 
-  shared-same : Same firsts Shared
-  shared-same = lowest-is t rows (shows Shared t rows firsts) (condition Shared h) (shared-is t rows (g .rising) stamps firsts (f .stamped) (f .placed))
-
   twin-same : Same writer Twin
-  twin-same = lowest-is t rows (shows Twin t rows writer) (condition Twin h) (twin-is t rows (g .rising) writer (f .written))
+  twin-same = lowest-is t rows (shows Twin t rows writer) (condition Twin h) (twin-is t rows (g .rising) writer f)
 
   orphan-same : Same writer Orphan
-  orphan-same = lowest-is t rows (shows Orphan t rows writer) (condition Orphan h) (orphan-is t rows (g .rising) writer (f .written))
+  orphan-same = lowest-is t rows (shows Orphan t rows writer) (condition Orphan h) (orphan-is t rows (g .rising) writer f)
 
   early-same : lowestRow (condition Twin h) h ≡ Nothing → Same writer Early
   unfolding condition
-  early-same once = lowest-is t rows (shows Early t rows writer) (condition Early h) (early-is t rows (g .rising) writer (f .written) once)
+  early-same once = lowest-is t rows (shows Early t rows writer) (condition Early h) (early-is t rows (g .rising) writer f once)
 
   -- the chain up to the orphans
   abbrev pub upto : List ℕ → List ℕ → Answer
   upto a b =
-      orTest (orTest (orTest (orTest (orTest (passed (length rows)) (shownTest t rows a Kind)) (shownTest t rows b Span)) (shownTest t rows firsts Shared)) (shownTest t rows writer Twin)) (shownTest t rows writer Orphan)
+      orTest (orTest (orTest (orTest (passed (length rows)) (shownTest t rows a Kind)) (shownTest t rows b Span)) (shownTest t rows writer Twin)) (shownTest t rows writer Orphan)
 
   -- no condition was met up to the orphans, so that no write repeats a value
   once : (a b : List ℕ) → upto a b .code ≡ 0 → lowestRow (condition Twin h) h ≡ Nothing
@@ -91,7 +89,7 @@ module _ (t rows stamps firsts writer : List ℕ) (g : Listed t rows) (f : Fille
   unfolding rowTests chained
   rows-examined a b =
       or-same _ _ _ _ (λ z. early-same (once a b z))
-      ∙ rw (kind-same a, span-same b, shared-same, twin-same, orphan-same) refl
+      ∙ rw (kind-same a, span-same b, twin-same, orphan-same) refl
       ∙ sym (met-chained (rowTests h) (coded h) (passed (length rows)) refl)
 
   -- a test that no row shows refuses nothing
@@ -105,13 +103,12 @@ module _ (t rows stamps firsts writer : List ℕ) (g : Listed t rows) (f : Fille
       go false = refl
 
   -- where no row shows a condition, the register passes
-  pub rows-quiet : ((i : ℕ) → i < length rows → Quiet t rows firsts writer i) → passed (length rows) ≡ firstMet (rowTests h) (passed (length rows))
+  pub rows-quiet : ((i : ℕ) → i < length rows → Quiet t rows writer i) → passed (length rows) ≡ firstMet (rowTests h) (passed (length rows))
   rows-quiet q =
       sym
       (or-quiet _ Early writer (λ i l. q i l .early)
       ∙ or-quiet _ Orphan writer (λ i l. q i l .orphan)
       ∙ or-quiet _ Twin writer (λ i l. q i l .twin)
-      ∙ or-quiet _ Shared firsts (λ i l. q i l .shared)
       ∙ or-quiet _ Span [] (λ i l. q i l .span [])
       ∙ or-quiet _ Kind [] (λ i l. q i l .kind []))
       ∙ rows-examined [] []

@@ -1,6 +1,6 @@
 -- What the code looks at in a row is the row's condition.
 -- Assumes nothing.
-use Prim.Native.Nat.{ℕ, zero, suc, _+_, _*_, _≤_, _<_}
+use Prim.Native.Nat.{ℕ, _≤_, _<_}
 use mathlib.Core.Path.{_≡_, refl, sym, ap, _∙_}
 use mathlib.Core.Bool.{Bool, true, false, _&&_}
 use mathlib.Core.Logic.{_⊎_, inl, inr}
@@ -13,7 +13,7 @@ use lib.ListN.{length, getD}
 use Rattle.lists.specs.declared.Found.the-variants.{Nothing}
 use Rattle.lists.specs.Lists.{first, upTo}
 use Rattle.lists.specs.Pairs.{Pairs}
-use Rattle.lists.proofs.Tests.{both, told-same, told-as, told-and, told-or, told-ltb, told-leb, told-true, true-told, told-false, false-told}
+use Rattle.lists.proofs.Tests.{both, told-same, told-as, told-and, told-ltb, told-leb, told-true, true-told, told-false, false-told}
 use Rattle.lists.proofs.Maps.{in-map, map-in}
 use Rattle.lists.proofs.Members.{nothing-none, first-ext, first-map}
 use Rattle.lists.proofs.Ranges.{in-below, at-each}
@@ -23,21 +23,11 @@ use Rattle.history.specs.Table.{Dictates, Precedes, isRead, isWrite, opAt, prec
 use Rattle.history.specs.Answer.{lowestRow}
 use Rattle.history.specs.Screen.{wrongKind, wrongSpan, rewrites}
 use Rattle.history.proofs.Operations.{told-write, told-read, told-precedes}
-use Rattle.history.proofs.Screened.{HasStamp, Shares, Repeats, told-shares, told-rewrites, told-unwritten, told-early}
-use Rattle.firsts.specs.Firsts.{Firsts}
+use Rattle.history.proofs.Screened.{Repeats, told-rewrites, told-unwritten, told-early}
 use Rattle.writers.specs.Writers.{writes, writesAt, writerOf, rowOp}
 use Rattle.writers.proofs.Seeking.{Seek, found, none, seek?, writes-is, is-writes}
-use Rattle.conditions.specs.declared.RowTest.the-variants.{Shared, Twin, Orphan, Early}
-use Rattle.conditions.specs.Tests.{condition, Stamped, shows, lowestAt, sharedAt, Quiet}
-
--- a number is even, or one more
-half : (e : ℕ) → (j : ℕ) × ((e ≡ 2 * j) ⊎ (e ≡ 2 * j + 1))
-half zero = (0, inl (omega arith))
-half (suc e) = go (half e)
-  where
-    go : (j : ℕ) × ((e ≡ 2 * j) ⊎ (e ≡ 2 * j + 1)) → (j : ℕ) × ((suc e ≡ 2 * j) ⊎ (suc e ≡ 2 * j + 1))
-    go (j, inl q) = (j, inr (omega arith))
-    go (j, inr q) = (suc j, inl (omega arith))
+use Rattle.conditions.specs.declared.RowTest.the-variants.{Twin, Orphan, Early}
+use Rattle.conditions.specs.Tests.{condition, shows, lowestAt, Quiet}
 
 module _ (t rows : List ℕ) where
   abbrev n : ℕ
@@ -80,45 +70,6 @@ module _ (t rows : List ℕ) where
         not-behind : (i ≡ j) ⊎ (i < j) → ⊥
         not-behind (inl e) = omega (arith, ap (λ (x : ℕ). op x .row) e)
         not-behind (inr b) = omega (arith, row-before i j b k)
-
-    -- Test 6, by the first places of the stamps.
-    module _ (stamps firsts : List ℕ) (s : Stamped t rows stamps) (f : Firsts stamps firsts) where
-      -- a stamp whose first place is before the i-th row is one of an earlier row
-      stamp-before : (i e : ℕ) → i < n → e < 2 * n → getD firsts e 0 < 2 * i → (j : ℕ) × (j < i) × HasStamp (op j) (getD stamps e 0)
-      stamp-before i e l k b = go (half (getD firsts e 0)) (f .at e (omega (arith, s .size)) .same)
-        where
-          go : (j : ℕ) × ((getD firsts e 0 ≡ 2 * j) ⊎ (getD firsts e 0 ≡ 2 * j + 1)) → getD stamps (getD firsts e 0) 0 ≡ getD stamps e 0
-              → (j : ℕ) × (j < i) × HasStamp (op j) (getD stamps e 0)
-          go (j, inl q) w = (j, omega arith, inl (sym (s .starts j (omega arith)) ∙ ap (λ (x : ℕ). getD stamps x 0) (sym q) ∙ w))
-          go (j, inr q) w = (j, omega arith, inr (sym (s .finishes j (omega arith)) ∙ ap (λ (x : ℕ). getD stamps x 0) (sym q) ∙ w))
-
-      before-stamp : (i e j : ℕ) → i < n → e < 2 * n → j < i → HasStamp (op j) (getD stamps e 0) → getD firsts e 0 < 2 * i
-      before-stamp i e j l k b (inl q) = omega (arith, f .at e (omega (arith, s .size)) .least (2 * j) (omega (arith, s .size)) (s .starts j (omega arith) ∙ q))
-      before-stamp i e j l k b (inr q) = omega (arith, f .at e (omega (arith, s .size)) .least (2 * j + 1) (omega (arith, s .size)) (s .finishes j (omega arith) ∙ q))
-
-      pub shared-is : (i : ℕ) → i < n → shows Shared t rows firsts i ≡ condition Shared h (op i)
-      unfolding shows condition
-      shared-is i l =
-          told-same
-          (told-as into back (told-or (told-ltb (getD firsts (2 * i) 0) (2 * i)) (told-ltb (getD firsts (2 * i + 1) 0) (2 * i))))
-          (told-shares h (op i))
-        where
-          start : getD stamps (2 * i) 0 ≡ op i .start
-          start = s .starts i l
-
-          finish : getD stamps (2 * i + 1) 0 ≡ op i .finish
-          finish = s .finishes i l
-
-          into : (getD firsts (2 * i) 0 < 2 * i) ⊎ (getD firsts (2 * i + 1) 0 < 2 * i) → (e : Op) × In e h × Shares (op i) e
-          into (inl b) = let k = stamp-before i (2 * i) l (omega arith) b in (op (k .0), op-in (k .0) (omega (arith, k .1)), (row-before (k .0) i (k .1) l, inl (rw start at (k .2))))
-          into (inr b) = let k = stamp-before i (2 * i + 1) l (omega arith) b in (op (k .0), op-in (k .0) (omega (arith, k .1)), (row-before (k .0) i (k .1) l, inr (rw finish at (k .2))))
-
-          at : (j : ℕ) → j < n → Shares (op i) (op j) → (getD firsts (2 * i) 0 < 2 * i) ⊎ (getD firsts (2 * i + 1) 0 < 2 * i)
-          at j k (b, inl q) = inl (before-stamp i (2 * i) j l (omega arith) (before-row j i k b) (rw start q))
-          at j k (b, inr q) = inr (before-stamp i (2 * i + 1) j l (omega arith) (before-row j i k b) (rw finish q))
-
-          back : (e : Op) × In e h × Shares (op i) e → (getD firsts (2 * i) 0 < 2 * i) ⊎ (getD firsts (2 * i + 1) 0 < 2 * i)
-          back (e, m, w) = let k = op-at m in at (k .0) (k .1) (rw (k .2) at w)
 
     -- Tests 7 to 9, by the position of each row's write.
     module _ (writer : List ℕ) (w : writer ≡ map (writerOf t rows) rows) where
@@ -221,14 +172,13 @@ and-false : (b : Bool) → (b && false) ≡ false
 and-false true = refl
 and-false false = refl
 
-module _ (t rows firsts writer : List ℕ) (i : ℕ) (kind : wrongKind (rowOp t rows i) ≡ false) (span : wrongSpan (rowOp t rows i) ≡ false) (shared : sharedAt firsts i ≡ false) where
-  pub quiet-write : isWrite (rowOp t rows i) ≡ true → i ≤ getD writer i 0 → Quiet t rows firsts writer i
+module _ (t rows writer : List ℕ) (i : ℕ) (kind : wrongKind (rowOp t rows i) ≡ false) (span : wrongSpan (rowOp t rows i) ≡ false) where
+  pub quiet-write : isWrite (rowOp t rows i) ≡ true → i ≤ getD writer i 0 → Quiet t rows writer i
   unfolding shows
   quiet-write e l =
       record {
         kind = λ c. kind;
         span = λ c. span;
-        shared = shared;
         twin = rw (e, le-ltb (getD writer i 0) i l);
         orphan = rw not-read;
         early = rw not-read;
@@ -237,13 +187,12 @@ module _ (t rows firsts writer : List ℕ) (i : ℕ) (kind : wrongKind (rowOp t 
       not-read : isRead (rowOp t rows i) ≡ false
       not-read = false-told (told-read (rowOp t rows i)) (λ r. omega (arith, told-true (told-write (rowOp t rows i)) e))
 
-  pub quiet-other : isWrite (rowOp t rows i) ≡ false → getD writer i 0 < length rows → precedes (rowOp t rows i) (rowOp t rows (getD writer i 0)) ≡ false → Quiet t rows firsts writer i
+  pub quiet-other : isWrite (rowOp t rows i) ≡ false → getD writer i 0 < length rows → precedes (rowOp t rows i) (rowOp t rows (getD writer i 0)) ≡ false → Quiet t rows writer i
   unfolding shows
   quiet-other e l p =
       record {
         kind = λ c. kind;
         span = λ c. span;
-        shared = shared;
         twin = rw e;
         orphan = rw (lt-leb (length rows) (getD writer i 0) l) (and-false (isRead (rowOp t rows i)));
         early = rw (p, lt-ltb (getD writer i 0) (length rows) l) (and-false (isRead (rowOp t rows i)));

@@ -1,8 +1,8 @@
 -- What the code's names for tests stand for in the definitions of the history (document 01's table, 4 to 9), and what the code looks at.
 -- Assumes nothing.
-use Prim.Native.Nat.{ℕ, _+_, _*_, _≤_, _<_}
+use Prim.Native.Nat.{ℕ, _≤_, _<_}
 use mathlib.Core.Path.{_≡_}
-use mathlib.Core.Bool.{Bool, false, _&&_, _||_}
+use mathlib.Core.Bool.{Bool, false, _&&_}
 use mathlib.Core.List.{List, [], _∷_, map}
 use lib.Dec.{ltb, leb}
 use lib.ListN.{length, getD}
@@ -11,18 +11,16 @@ use Rattle.lists.specs.Lists.{first, upTo}
 use Rattle.history.specs.declared.Op.{Op}
 use Rattle.lists.specs.Pairs.{Pairs}
 use Rattle.history.specs.Table.{largestCount, isWrite, isRead, precedes}
-use Rattle.history.specs.Answer.{Code, bad-kind, bad-span, shared-stamp, twin-write, orphan-read, early-read, Test, test, lowestRow}
-use Rattle.history.specs.Screen.{wrongKind, wrongSpan, sharesStamp, rewrites, unwritten, tooEarly}
-use Rattle.firsts.specs.Firsts.{Firsts}
-use Rattle.writers.specs.Writers.{Within, writerOf, rowOp}
+use Rattle.history.specs.Answer.{Code, bad-kind, bad-span, twin-write, orphan-read, early-read, Test, test, lowestRow}
+use Rattle.history.specs.Screen.{wrongKind, wrongSpan, rewrites, unwritten, tooEarly}
+use Rattle.writers.specs.Writers.{Within, rowOp}
 use Rattle.conditions.specs.declared.RowTest.{RowTest}
-use Rattle.conditions.specs.declared.RowTest.the-variants.{Kind, Span, Shared, Twin, Orphan, Early}
+use Rattle.conditions.specs.declared.RowTest.the-variants.{Kind, Span, Twin, Orphan, Early}
 
 -- the code of each test
 abbrev pub codeOf : RowTest → Code
 codeOf Kind = bad-kind
 codeOf Span = bad-span
-codeOf Shared = shared-stamp
 codeOf Twin = twin-write
 codeOf Orphan = orphan-read
 codeOf Early = early-read
@@ -31,7 +29,6 @@ codeOf Early = early-read
 unfoldable pub condition : RowTest → List Op → Op → Bool
 condition Kind h = wrongKind
 condition Span h = wrongSpan
-condition Shared h = sharesStamp h
 condition Twin h = rewrites h
 condition Orphan h = unwritten h
 condition Early h = tooEarly h
@@ -42,23 +39,12 @@ rowTest h x = test (codeOf x) (lowestRow (condition x h) h)
 
 -- tests 4 to 9 of a register's history, in their sequence
 unfoldable pub rowTests : List Op → List Test
-rowTests h = map (rowTest h) (Kind ∷ Span ∷ Shared ∷ Twin ∷ Orphan ∷ Early ∷ [])
+rowTests h = map (rowTest h) (Kind ∷ Span ∷ Twin ∷ Orphan ∷ Early ∷ [])
 
--- The stamps of the rows, two a row: the start and the finish.
-pub record Stamped (t rows stamps : List ℕ) : Type 0 where
-  pub size : length stamps ≡ 2 * length rows
-  pub starts : (i : ℕ) → i < length rows → getD stamps (2 * i) 0 ≡ rowOp t rows i .start
-  pub finishes : (i : ℕ) → i < length rows → getD stamps (2 * i + 1) 0 ≡ rowOp t rows i .finish
-
--- a stamp of the i-th row has its first place before the row
-abbrev pub sharedAt : List ℕ → ℕ → Bool
-sharedAt firsts i = ltb (getD firsts (2 * i) 0) (2 * i) || ltb (getD firsts (2 * i + 1) 0) (2 * i)
-
--- What the code looks at in the i-th row, with a column: the first places of the stamps, or the position of each row's write.
+-- What the code looks at in the i-th row, with a column: the position of each row's write.
 unfoldable pub shows : RowTest → List ℕ → List ℕ → List ℕ → ℕ → Bool
 shows Kind t rows column i = wrongKind (rowOp t rows i)
 shows Span t rows column i = wrongSpan (rowOp t rows i)
-shows Shared t rows column i = sharedAt column i
 shows Twin t rows column i = isWrite (rowOp t rows i) && ltb (getD column i 0) i
 shows Orphan t rows column i = isRead (rowOp t rows i) && leb (length rows) (getD column i 0)
 shows Early t rows column i =
@@ -73,10 +59,9 @@ abbrev pub shownTest : List ℕ → List ℕ → List ℕ → RowTest → Test
 shownTest t rows column x = test (codeOf x) (lowestAt (shows x t rows column) rows)
 
 -- the i-th row shows no condition
-pub record Quiet (t rows firsts writer : List ℕ) (i : ℕ) : Type 0 where
+pub record Quiet (t rows writer : List ℕ) (i : ℕ) : Type 0 where
   pub kind : (column : List ℕ) → shows Kind t rows column i ≡ false
   pub span : (column : List ℕ) → shows Span t rows column i ≡ false
-  pub shared : shows Shared t rows firsts i ≡ false
   pub twin : shows Twin t rows writer i ≡ false
   pub orphan : shows Orphan t rows writer i ≡ false
   pub early : shows Early t rows writer i ≡ false
@@ -86,9 +71,3 @@ pub record Listed (t rows : List ℕ) : Type 0 where
   pub within : Within t rows
   pub rising : Pairs (λ x y. x < y) rows
   pub few : length rows ≤ largestCount
-
--- what tests 6 to 9 look at
-pub record Filled (t rows stamps firsts writer : List ℕ) : Type 0 where
-  pub stamped : Stamped t rows stamps
-  pub placed : Firsts stamps firsts
-  pub written : writer ≡ map (writerOf t rows) rows

@@ -1,4 +1,4 @@
-// Tests 4 to 9 of a list of rows, by the first places of their stamps and the position of each row's write.
+// Tests 4 to 9 of a list of rows, by the position of each row's write.
 use history::Answer;
 use history::Op;
 use history::Row;
@@ -6,21 +6,20 @@ use lists::Found;
 ghost use mathlib.Core.Path.{_≡_};
 ghost use mathlib.Core.Bool.{true, _&&_};
 ghost use Prim.Native.Nat.{ℕ, _<_};
-ghost use mathlib.Core.List.{List, map};
+ghost use mathlib.Core.List.{map};
 ghost use lib.Dec.{ltb, leb};
 ghost use lib.ListN.{length, getD};
-ghost use Rattle.history.specs.Table.{largestCount, opAt, isWrite, isRead, precedes};
+ghost use Rattle.history.specs.Table.{opAt, isWrite, isRead, precedes};
 ghost use Rattle.history.specs.Answer.{number, firstMet, passed};
 ghost use Rattle.history.specs.Screen.{wrongKind, wrongSpan};
 ghost use Rattle.history.proofs.Refusals.{orTest};
-ghost use Rattle.writers.specs.Writers.{Within, rowOp};
-ghost use Rattle.conditions.specs.Tests.{codeOf, rowTests, sharedAt, shows, lowestAt, shownTest, Quiet, Listed, Filled};
+ghost use Rattle.writers.specs.Writers.{Within, writerOf, rowOp};
+ghost use Rattle.conditions.specs.Tests.{codeOf, rowTests, shows, lowestAt, shownTest, Quiet, Listed};
 
 // The tests that look at each row of the register, in their sequence.
 enum RowTest {
     Kind,
     Span,
-    Shared,
     Twin,
     Orphan,
     Early,
@@ -38,10 +37,10 @@ fn wrong_kind(o: Op) -> bool
 fn wrong_span(o: Op) -> bool
     ensures { λ r. ⌜ r ≡ wrongSpan o ⌝ }
 {
-    if o.start < o.finish {
-        return Row::LARGEST_STAMP < o.finish;
+    if o.finish < o.start {
+        return true;
     }
-    true
+    Row::LARGEST_STAMP < o.finish
 }
 
 // The number at a place; 0 past the end.
@@ -49,20 +48,6 @@ fn entry(list: &[u64], place: usize) -> u64
     ensures { λ r. ⌜ r ≡ getD (now (list .entry)) place 0 ⌝ }
 {
     if place < list.len() { list[place] } else { 0 }
-}
-
-// Whether a stamp of the i-th row stands in an earlier one, by the first place of each stamp.
-fn shared(firsts: &[u64], i: usize) -> bool
-    requires { ⌜ i < largestCount ⌝ }
-    ensures { λ r. ⌜ r ≡ sharedAt (now (firsts .entry)) i ⌝ }
-{
-    let own = 2 * i;
-    let start = entry(firsts, own) as usize;
-    if start < own {
-        return true;
-    }
-    let finish = entry(firsts, own + 1) as usize;
-    finish < own
 }
 
 // Whether the i-th row is a write, and the first write of its value another.
@@ -109,7 +94,6 @@ fn meets(table: &[u64], rows: &[u64], column: &[u64], test: RowTest, i: usize) -
     match test {
         RowTest::Kind => wrong_kind(o),
         RowTest::Span => wrong_span(o),
-        RowTest::Shared => shared(column, i),
         RowTest::Twin => twin(o, entry(column, i) as usize, i),
         RowTest::Orphan => orphan(o, entry(column, i) as usize, rows.len()),
         RowTest::Early => early(table, rows, o, entry(column, i) as usize),
@@ -138,7 +122,6 @@ fn code(test: RowTest) -> u64
     match test {
         RowTest::Kind => Answer::BAD_KIND,
         RowTest::Span => Answer::BAD_SPAN,
-        RowTest::Shared => Answer::SHARED_STAMP,
         RowTest::Twin => Answer::TWIN_WRITE,
         RowTest::Orphan => Answer::ORPHAN_READ,
         RowTest::Early => Answer::EARLY_READ,
@@ -160,19 +143,16 @@ fn or_test(table: &[u64], rows: &[u64], column: &[u64], answer: Answer, test: Ro
 }
 
 // Whether the i-th row meets no condition of tests 4 to 9.
-fn quiet(table: &[u64], rows: &[u64], firsts: &[u64], writer: &[u64], i: usize) -> bool
+fn quiet(table: &[u64], rows: &[u64], writer: &[u64], i: usize) -> bool
     requires { ⌜ Listed (now table) (now rows) ⌝ }
     requires { ⌜ i < length (now rows) ⌝ }
-    ensures { λ r. ⌜ (r ≡ true → Quiet (now (table .entry)) (now (rows .entry)) (now (firsts .entry)) (now (writer .entry)) i) ⌝ }
+    ensures { λ r. ⌜ (r ≡ true → Quiet (now (table .entry)) (now (rows .entry)) (now (writer .entry)) i) ⌝ }
 {
     let o = Op::at(table, rows[i] as usize);
     if wrong_kind(o) {
         return false;
     }
     if wrong_span(o) {
-        return false;
-    }
-    if shared(firsts, i) {
         return false;
     }
     let w = entry(writer, i) as usize;
@@ -186,13 +166,13 @@ fn quiet(table: &[u64], rows: &[u64], firsts: &[u64], writer: &[u64], i: usize) 
 }
 
 // Whether no row meets a condition of tests 4 to 9: one pass for a register that passes.
-fn all_quiet(table: &[u64], rows: &[u64], firsts: &[u64], writer: &[u64]) -> bool
+fn all_quiet(table: &[u64], rows: &[u64], writer: &[u64]) -> bool
     requires { ⌜ Listed (now table) (now rows) ⌝ }
-    ensures { λ r. ⌜ (r ≡ true → ((i : ℕ) → i < length (now (rows .entry)) → Quiet (now (table .entry)) (now (rows .entry)) (now (firsts .entry)) (now (writer .entry)) i)) ⌝ }
+    ensures { λ r. ⌜ (r ≡ true → ((i : ℕ) → i < length (now (rows .entry)) → Quiet (now (table .entry)) (now (rows .entry)) (now (writer .entry)) i)) ⌝ }
 {
     let mut i: usize = 0;
     while i < rows.len() {
-        if !quiet(table, rows, firsts, writer, i) {
+        if !quiet(table, rows, writer, i) {
             return false;
         }
         i += 1;
@@ -201,19 +181,18 @@ fn all_quiet(table: &[u64], rows: &[u64], firsts: &[u64], writer: &[u64]) -> boo
 }
 
 // Tests 4 to 9 of the rows.
-pub fn test_rows(table: &[u64], rows: &[u64], firsts: &[u64], writer: &[u64]) -> Answer
+pub fn test_rows(table: &[u64], rows: &[u64], writer: &[u64]) -> Answer
     requires { ⌜ Listed (now table) (now rows) ⌝ }
-    requires { ⌜ ((stamps : List ℕ) × Filled (now table) (now rows) stamps (now firsts) (now writer)) ⌝ }
+    requires { ⌜ now writer ≡ map (writerOf (now table) (now rows)) (now rows) ⌝ }
     ensures { λ r. ⌜ r ≡ firstMet (rowTests (map (opAt (now (table .entry))) (now (rows .entry)))) (passed (length (now (rows .entry)))) ⌝ }
 {
     let none = Answer::passed(rows.len() as u64);
-    if all_quiet(table, rows, firsts, writer) {
+    if all_quiet(table, rows, writer) {
         return none;
     }
     let kind = or_test(table, rows, rows, none, RowTest::Kind);
     let span = or_test(table, rows, rows, kind, RowTest::Span);
-    let shared = or_test(table, rows, firsts, span, RowTest::Shared);
-    let twin = or_test(table, rows, writer, shared, RowTest::Twin);
+    let twin = or_test(table, rows, writer, span, RowTest::Twin);
     let orphan = or_test(table, rows, writer, twin, RowTest::Orphan);
     or_test(table, rows, writer, orphan, RowTest::Early)
 }

@@ -15,7 +15,7 @@ use Rattle.lists.proofs.Members.{told-any, nothing-none, none-nothing}
 use Rattle.history.specs.declared.Op.{Op}
 use Rattle.history.specs.Table.{largestStamp, largestCount, isWrite, isRead, Precedes, Dictates, history}
 use Rattle.history.specs.Answer.{passed, lowestRow}
-use Rattle.history.specs.Screen.{wrongKind, wrongSpan, hasStamp, shares, sharesStamp, repeats, rewrites, dictatedBy, unwritten, precedesWrite, tooEarly, tests, examined, screening, Screened}
+use Rattle.history.specs.Screen.{wrongKind, wrongSpan, repeats, rewrites, dictatedBy, unwritten, precedesWrite, tooEarly, tests, examined, screening, Screened}
 use Rattle.history.proofs.Operations.{told-write, told-read, told-precedes, told-dictates}
 use Rattle.history.proofs.Refusals.{NoFault, Coded, code-no-fault, no-fault-answer, if-so, if-not}
 
@@ -25,23 +25,9 @@ told-kind : (o : Op) → Told (((o .kind ≡ 1) ⊎ (o .kind ≡ 2)) → ⊥) (w
 unfolding wrongKind
 told-kind o = told-not (told-or (told-write o) (told-read o))
 
-told-span : (o : Op) → Told ((o .start < o .finish → ⊥) ⊎ (largestStamp < o .finish)) (wrongSpan o)
+told-span : (o : Op) → Told ((o .finish < o .start) ⊎ (largestStamp < o .finish)) (wrongSpan o)
 unfolding wrongSpan
-told-span o = told-or (told-not (told-ltb (o .start) (o .finish))) (told-ltb largestStamp (o .finish))
-
--- e has the stamp s
-abbrev pub HasStamp : Op → ℕ → Type 0
-HasStamp e s = (e .start ≡ s) ⊎ (e .finish ≡ s)
-
-told-stamp : (e : Op) (s : ℕ) → Told (HasStamp e s) (hasStamp e s)
-told-stamp e s = told-or (told-eqb (e .start) s) (told-eqb (e .finish) s)
-
-abbrev pub Shares : Op → Op → Type 0
-Shares o e = (e .row < o .row) × (HasStamp e (o .start) ⊎ HasStamp e (o .finish))
-
-pub told-shares : (h : List Op) (o : Op) → Told ((e : Op) × In e h × Shares o e) (sharesStamp h o)
-unfolding sharesStamp shares
-told-shares h o = told-any (shares o) h (λ e. told-and (told-ltb (e .row) (o .row)) (told-or (told-stamp e (o .start)) (told-stamp e (o .finish))))
+told-span o = told-or (told-ltb (o .finish) (o .start)) (told-ltb largestStamp (o .finish))
 
 abbrev pub Repeats : Op → Op → Type 0
 Repeats o e = ((e .row < o .row) × (e .kind ≡ 1)) × (e .value ≡ o .value)
@@ -70,32 +56,23 @@ module _ (size : ℕ) (h : List Op) where
   meets-none : (p : Op → Bool) → ((o : Op) → In o h → p o ≡ false) → lowestRow p h ≡ Nothing
   meets-none p = none-nothing (λ o. o .row) p h
 
-  right-span : (o : Op) → wrongSpan o ≡ false → (o .start < o .finish) × (o .finish ≤ largestStamp)
-  right-span o e = go (decLt (o .start) (o .finish)) (told-false (told-span o) e)
-    where
-      go : Dec (o .start < o .finish) → ((o .start < o .finish → ⊥) ⊎ (largestStamp < o .finish) → ⊥) → (o .start < o .finish) × (o .finish ≤ largestStamp)
-      go (yes l) n = let m : largestStamp < o .finish → ⊥ = λ k. n (inr k) in (l, omega arith)
-      go (no l) n = absurd (n (inl l))
+  right-span : (o : Op) → wrongSpan o ≡ false → (o .start ≤ o .finish) × (o .finish ≤ largestStamp)
+  right-span o e =
+      let n = told-false (told-span o) e in
+      let a : o .finish < o .start → ⊥ = λ k. n (inl k) in
+      let b : largestStamp < o .finish → ⊥ = λ k. n (inr k) in
+      (omega arith, omega arith)
 
-  span-right : (o : Op) → (o .start < o .finish) × (o .finish ≤ largestStamp) → wrongSpan o ≡ false
+  span-right : (o : Op) → (o .start ≤ o .finish) × (o .finish ≤ largestStamp) → wrongSpan o ≡ false
   span-right o s = false-told (told-span o) go
     where
-      go : (o .start < o .finish → ⊥) ⊎ (largestStamp < o .finish) → ⊥
-      go (inl n) = n (s .0)
+      go : (o .finish < o .start) ⊎ (largestStamp < o .finish) → ⊥
+      go (inl l) = omega (arith, s .0)
       go (inr l) = omega (arith, s .1)
 
   right-kind : (o : Op) → wrongKind o ≡ false → (o .kind ≡ 1) ⊎ (o .kind ≡ 2)
   unfolding wrongKind
   right-kind o e = told-true (told-or (told-write o) (told-read o)) (not-false (isWrite o || isRead o) e)
-
-  apart : (s : Screened size h) (o : Op) → In o h → (e : Op) → In e h → Shares o e → ⊥
-  apart s o m e k (l, w) = go w (s .stamps e o k m l)
-    where
-      go : HasStamp e (o .start) ⊎ HasStamp e (o .finish) → (e .start ≢ o .start) × (e .start ≢ o .finish) × (e .finish ≢ o .start) × (e .finish ≢ o .finish) → ⊥
-      go (inl (inl q)) n = n .0 q
-      go (inl (inr q)) n = n .2 q
-      go (inr (inl q)) n = n .1 q
-      go (inr (inr q)) n = n .3 q
 
   has-write : (r : Op) → unwritten h r ≡ false → r .kind ≡ 2 → (w : Op) × In w h × Dictates w r
   unfolding unwritten dictatedBy
@@ -111,21 +88,14 @@ module _ (size : ℕ) (h : List Op) where
   no-fault-screened b f =
       let kind = none-meets wrongKind (f .1 .1 .1 .0) in
       let span = none-meets wrongSpan (f .1 .1 .1 .1 .0) in
-      let shared = none-meets (sharesStamp h) (f .1 .1 .1 .1 .1 .0) in
-      let twin = none-meets (rewrites h) (f .1 .1 .1 .1 .1 .1 .0) in
-      let orphan = none-meets (unwritten h) (f .1 .1 .1 .1 .1 .1 .1 .0) in
-      let early = none-meets (tooEarly h) (f .1 .1 .1 .1 .1 .1 .1 .1 .0) in
+      let twin = none-meets (rewrites h) (f .1 .1 .1 .1 .1 .0) in
+      let orphan = none-meets (unwritten h) (f .1 .1 .1 .1 .1 .1 .0) in
+      let early = none-meets (tooEarly h) (f .1 .1 .1 .1 .1 .1 .1 .0) in
       record {
         whole = eqb-true (size % 5) 0 (not-false _ (if-so _ (f .0)));
         few = ltb-false largestCount (size / 5) (if-so _ (f .1 .0));
         kinds = λ o m. right-kind o (kind o m);
         spans = λ o m. right-span o (span o m);
-        stamps = λ x y mx my l. let n = told-false (told-shares h y) (shared y my) in (
-          λ q. n (x, mx, (l, inl (inl q))),
-          λ q. n (x, mx, (l, inr (inl q))),
-          λ q. n (x, mx, (l, inl (inr q))),
-          λ q. n (x, mx, (l, inr (inr q))),
-        );
         values = λ x y mx my l kx ky q. told-false (told-rewrites h y) (twin y my) (ky, (x, mx, ((l, kx), q)));
         written = λ r m k. has-write r (orphan r m) k;
         timely = λ w r mw mr d p. told-false (told-early h r) (early r mr) (d .reads, (w, mw, (d, p)));
@@ -145,15 +115,12 @@ module _ (size : ℕ) (h : List Op) where
           (
             meets-none wrongSpan (λ o m. span-right o (s .spans o m)),
             (
-              meets-none (sharesStamp h) (λ o m. false-told (told-shares h o) (λ k. apart s o m (k .0) (k .1) (k .2))),
+              meets-none (rewrites h) (λ o m. false-told (told-rewrites h o) (λ k. s .values (k .1 .0) o (k .1 .1) m (k .1 .2 .0 .0) (k .1 .2 .0 .1) (k .0) (k .1 .2 .1))),
               (
-                meets-none (rewrites h) (λ o m. false-told (told-rewrites h o) (λ k. s .values (k .1 .0) o (k .1 .1) m (k .1 .2 .0 .0) (k .1 .2 .0 .1) (k .0) (k .1 .2 .1))),
+                meets-none (unwritten h) (λ o m. false-told (told-unwritten h o) (λ k. k .1 (s .written o m (k .0)))),
                 (
-                  meets-none (unwritten h) (λ o m. false-told (told-unwritten h o) (λ k. k .1 (s .written o m (k .0)))),
-                  (
-                    meets-none (tooEarly h) (λ o m. false-told (told-early h o) (λ k. s .timely (k .1 .0) o (k .1 .1) m (k .1 .2 .0) (k .1 .2 .1))),
-                    tt,
-                  ),
+                  meets-none (tooEarly h) (λ o m. false-told (told-early h o) (λ k. s .timely (k .1 .0) o (k .1 .1) m (k .1 .2 .0) (k .1 .2 .1))),
+                  tt,
                 ),
               ),
             ),

@@ -19,7 +19,6 @@ pub data Code : Type 0 where
   no-such-question : Code
   bad-kind : Code  -- the lowest such row
   bad-span : Code  -- the lowest such row
-  shared-stamp : Code  -- the lowest such row
   twin-write : Code  -- the lowest such row
   orphan-read : Code  -- the lowest such read's row
   early-read : Code  -- the lowest such read's row
@@ -34,7 +33,7 @@ pub data Code : Type 0 where
   header-fault : Code  -- the offset 0 (02, W-201)
   unreadable-cell : Code  -- the offset of the cell, or of its line (02, W-201)
 
--- their numbers (01's table, and 02)
+-- their numbers (01's table, and 02); 6 is no longer given (02, W-203)
 abbrev pub number : Code → ℕ
 number fresh = 0
 number ragged = 1
@@ -42,7 +41,6 @@ number overfull = 2
 number no-such-question = 3
 number bad-kind = 4
 number bad-span = 5
-number shared-stamp = 6
 number twin-write = 7
 number orphan-read = 8
 number early-read = 9

@@ -11,31 +11,21 @@ use Rattle.lists.specs.Lists.{any}
 use Rattle.history.specs.declared.Op.{Op}
 use Rattle.history.specs.declared.Answer.{Answer}
 use Rattle.history.specs.Table.{largestCount, largestStamp, history, isWrite, isRead, precedes, Precedes, dictates, Dictates}
-use Rattle.history.specs.Answer.{ragged, overfull, no-such-question, bad-kind, bad-span, shared-stamp, twin-write, orphan-read, early-read, Test, test, ifSo, lowestRow, firstMet, passed}
+use Rattle.history.specs.Answer.{ragged, overfull, no-such-question, bad-kind, bad-span, twin-write, orphan-read, early-read, Test, test, ifSo, lowestRow, firstMet, passed}
 
--- The conditions on an operation o of a register's history h (01's table, codes 4 to 9).
+-- The conditions on an operation o of a register's history h (01's table, codes 4, 5 and 7 to 9; 02, W-203: 6 is no longer given).
 
 -- 4: kind not 1 or 2
 unfoldable pub wrongKind : Op → Bool
 wrongKind o = not (isWrite o || isRead o)
 
--- 5: start not below finish, or finish over the largest stamp
+-- 5: start above finish, or finish over the largest stamp (02, W-203); a row may start and finish at one stamp
 unfoldable pub wrongSpan : Op → Bool
-wrongSpan o = not (ltb (o .start) (o .finish)) || ltb largestStamp (o .finish)
+wrongSpan o = ltb (o .finish) (o .start) || ltb largestStamp (o .finish)
 
 -- e stands in an earlier row than o
 abbrev pub earlier : Op → Op → Bool
 earlier e o = ltb (e .row) (o .row)
-
-abbrev pub hasStamp : Op → ℕ → Bool
-hasStamp e s = eqb (e .start) s || eqb (e .finish) s
-
--- 6: a stamp equals one in an earlier row of the register. After 5 no row has two equal stamps, so different rows are compared.
-unfoldable pub shares : Op → Op → Bool
-shares o e = earlier e o && (hasStamp e (o .start) || hasStamp e (o .finish))
-
-unfoldable pub sharesStamp : List Op → Op → Bool
-sharesStamp h o = any (shares o) h
 
 -- 7: a write's value was written by an earlier row
 unfoldable pub repeats : Op → Op → Bool
@@ -44,14 +34,14 @@ repeats o e = earlier e o && isWrite e && eqb (e .value) (o .value)
 unfoldable pub rewrites : List Op → Op → Bool
 rewrites h o = isWrite o && any (repeats o) h
 
--- 8: a read without a dictating write
+-- 8: a read without a dictating write, the first of the paper's two anomalies (000, section II.C)
 unfoldable pub dictatedBy : Op → Op → Bool
 dictatedBy o w = dictates w o
 
 unfoldable pub unwritten : List Op → Op → Bool
 unwritten h o = isRead o && not (any (dictatedBy o) h)
 
--- 9: a read that precedes its dictating write
+-- 9: a read that precedes its dictating write, by recorded stamps: the second of the paper's two anomalies (000, section II.C)
 unfoldable pub precedesWrite : Op → Op → Bool
 precedesWrite o w = dictates w o && precedes o w
 
@@ -67,7 +57,6 @@ tests size h unasked =
     ∷ test no-such-question (ifSo unasked)
     ∷ test bad-kind (lowestRow wrongKind h)
     ∷ test bad-span (lowestRow wrongSpan h)
-    ∷ test shared-stamp (lowestRow (sharesStamp h) h)
     ∷ test twin-write (lowestRow (rewrites h) h)
     ∷ test orphan-read (lowestRow (unwritten h) h)
     ∷ test early-read (lowestRow (tooEarly h) h)
@@ -86,13 +75,7 @@ pub record Screened (size : ℕ) (h : List Op) : Type 0 where
   pub whole : size % 5 ≡ 0
   pub few : size / 5 ≤ largestCount
   pub kinds : (o : Op) → In o h → (o .kind ≡ 1) ⊎ (o .kind ≡ 2)
-  pub spans : (o : Op) → In o h → (o .start < o .finish) × (o .finish ≤ largestStamp)
-  pub stamps :
-      (a b : Op) →
-      In a h →
-      In b h →
-      a .row < b .row →
-      (a .start ≢ b .start) × (a .start ≢ b .finish) × (a .finish ≢ b .start) × (a .finish ≢ b .finish)
+  pub spans : (o : Op) → In o h → (o .start ≤ o .finish) × (o .finish ≤ largestStamp)
   pub values : (a b : Op) → In a h → In b h → a .row < b .row → a .kind ≡ 1 → b .kind ≡ 1 → a .value ≢ b .value
   pub written : (r : Op) → In r h → r .kind ≡ 2 → (w : Op) × In w h × Dictates w r
   pub timely : (w r : Op) → In w h → In r h → Dictates w r → ¬ Precedes r w

@@ -137,8 +137,6 @@ impl Answer {
 
     pub const BAD_SPAN: u64 = 5;
 
-    pub const SHARED_STAMP: u64 = 6;
-
     pub const TWIN_WRITE: u64 = 7;
 
     pub const ORPHAN_READ: u64 = 8;

@@ -10,10 +10,10 @@ use Rattle.holders.specs.declared.Seen.{Seen}
 
 -- how many buckets there are for few keys and for many, and the most keys
 abbrev pub buckets : Bool → ℕ
-buckets few = cond few 127 4093
+buckets few = cond few 127 2039
 
 abbrev pub mostKeys : ℕ
-mostKeys = 2048
+mostKeys = 1024
 
 -- the bucket of the key of place j, of n buckets
 abbrev pub bucketOf : ℕ → List ℕ → ℕ → ℕ

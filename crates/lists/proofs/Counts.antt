@@ -1,12 +1,14 @@
 -- How many elements pass a test.
 -- Assumes nothing.
 use Prim.Native.Nat.{suc, _≤_, _<_}
-use mathlib.Core.Path.{_≡_, ap}
-use mathlib.Core.Bool.{Bool, true, false}
+use mathlib.Core.Path.{_≡_, refl, ap, _∙_}
+use mathlib.Core.Bool.{Bool, true, false, cond}
 use mathlib.Core.List.{List, [], _∷_, List·Memᴰ as In, List·Memᴰ·head as here, List·Memᴰ·tail as there}
 use native.Mathlib.Omega.{arith}
 use lib.ListN.{length}
 use Rattle.lists.specs.Lists.{put, keep}
+use Rattle.lists.specs.Sorts.{insert, sort}
+use Rattle.lists.proofs.Members.{in-keep, keep-all}
 
 module _ {A : Type 0} where
   put-mono : (c : Bool) (x : A) (a b : List A) → length a ≤ length b → length (put c x a) ≤ length (put c x b)
@@ -55,3 +57,37 @@ module _ {A : Type 0} where
       go : (b : Bool) → length (keep q (keep p l)) < length (keep q l) → length (keep q (put b x (keep p l))) < length (put (q x) x (keep q l))
       go true h = put-mono-lt (q x) x _ _ h
       go false h = omega (arith, put-more (q x) x (keep q l))
+
+  -- more elements pass a test that all of them pass and one more
+  pub keep-more : (p q : A → Bool) (l : List A) → ((x : A) → p x ≡ true → q x ≡ true) → {y : A} → In y l → p y ≡ false → q y ≡ true
+      → length (keep p l) < length (keep q l)
+  keep-more p q l h m n s = rw (keep-all q (keep p l) (λ x k. h x (in-keep p l k .1))) at (keep-lt q p l m s n)
+
+  -- a sorted list has as many elements that pass
+  module _ (le : A → A → Bool) (p : A → Bool) where
+    put-two : (b c : Bool) (x y : A) (l : List A) → length (put b x (put c y l)) ≡ length (put c y (put b x l))
+    unfolding put
+    put-two true true x y l = refl
+    put-two true false x y l = refl
+    put-two false true x y l = refl
+    put-two false false x y l = refl
+
+    put-same : (b : Bool) (x : A) (k l : List A) → length k ≡ length l → length (put b x k) ≡ length (put b x l)
+    unfolding put
+    put-same true x k l e = ap suc e
+    put-same false x k l e = e
+
+    count-insert : (w : A) (l : List A) → length (keep p (insert le w l)) ≡ length (keep p (w ∷ l))
+    unfolding insert keep
+    count-insert w [] = refl
+    count-insert w (x ∷ l) = go (le w x) (count-insert w l)
+      where
+        go : (b : Bool) → length (keep p (insert le w l)) ≡ length (put (p w) w (keep p l))
+            → length (keep p (cond b (w ∷ (x ∷ l)) (x ∷ insert le w l))) ≡ length (put (p w) w (put (p x) x (keep p l)))
+        go true ih = refl
+        go false ih = put-same (p x) x _ _ ih ∙ put-two (p x) (p w) x w (keep p l)
+
+    pub count-sort : (l : List A) → length (keep p (sort le l)) ≡ length (keep p l)
+    unfolding sort keep
+    count-sort [] = refl
+    count-sort (x ∷ l) = count-insert x (sort le l) ∙ put-same (p x) x _ _ (count-sort l)

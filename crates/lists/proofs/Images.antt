@@ -30,6 +30,11 @@ keep-map {A} {B} f q (x ∷ l) = go (q (f x)) (keep-map f q l)
     go true e = ap (λ (z : List B). f x ∷ z) e
     go false e = e
 
+-- an image of an image
+pub map-twice : {A B C : Type 0} (f : B → C) (g : A → B) (l : List A) → map f (map g l) ≡ map (λ x. f (g x)) l
+map-twice f g [] = refl
+map-twice {C = C} f g (x ∷ l) = ap (λ (z : List C). f (g x) ∷ z) (map-twice f g l)
+
 pub map-append : {A B : Type 0} (f : A → B) (a b : List A) → map f (a ++ b) ≡ map f a ++ map f b
 map-append f [] b = refl
 map-append {A} {B} f (x ∷ a) b = ap (λ (z : List B). f x ∷ z) (map-append f a b)
@@ -112,6 +117,12 @@ module _ {A : Type 0} (le me : A → A → Bool) where
       go : (b : Bool) → le w x ≡ b → insert le w l ≡ insert me w l → cond (le w x) (w ∷ (x ∷ l)) (x ∷ insert le w l) ≡ cond b (w ∷ (x ∷ l)) (x ∷ insert me w l)
       go true e ih = rw e refl
       go false e ih = rw e (ap (λ (z : List A). x ∷ z) ih)
+
+  -- where they agree on each element and the later ones, too
+  pub sort-as : {l : List A} → Pairs (λ x y. le x y ≡ me x y) l → sort le l ≡ sort me l
+  unfolding sort
+  sort-as nil = refl
+  sort-as (cons {x = x} {l = l} u t) = insert-ext x (sort le l) (λ y m. u y (in-sort le l m)) ∙ ap (insert me x) (sort-as t)
 
   pub sort-ext : (l : List A) → ((x y : A) → In x l → In y l → le x y ≡ me x y) → sort le l ≡ sort me l
   unfolding sort

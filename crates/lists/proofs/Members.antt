@@ -20,6 +20,12 @@ module _ {A : Type 0} where
       go true e (there k) ih = (there (ih k .0), ih k .1)
       go false e k ih = (there (ih k .0), ih k .1)
 
+  -- a list all of which passes is kept whole
+  pub keep-all : (p : A → Bool) (l : List A) → ((x : A) → In x l → p x ≡ true) → keep p l ≡ l
+  unfolding keep put
+  keep-all p [] h = refl
+  keep-all p (x ∷ l) h = rw (h x (here refl), keep-all p l (λ y m. h y (there m))) refl
+
   pub keep-in : (p : A → Bool) (l : List A) {y : A} → In y l → p y ≡ true → In y (keep p l)
   unfolding keep put
   keep-in p (x ∷ l) (here q) h = rw (← ap p q, h) (here q)

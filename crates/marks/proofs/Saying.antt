@@ -23,7 +23,7 @@ use Rattle.history.proofs.Rows.{rows-few}
 use Rattle.methods.specs.Prepared.{prepared}
 use Rattle.methods.specs.Zones.{Decision, none, order}
 use Rattle.methods.specs.Mark.{Outcome, noQuestion, method, answered, marked, judged, markTests, markOf, mark, rowNumbers}
-use Rattle.preparation.proofs.Rows.{history-rows, orders-atomic, atomic-orders}
+use Rattle.preparation.proofs.Rows.{history-rows, orders-of-rows}
 use Rattle.meaning.specs.Marked.{Passes, trialsOf, Marked, is-refused, is-spent, is-stale, is-fresh}
 use Rattle.meaning.specs.Demand.{NoOrder}
 use Rattle.meaning.proofs.Methods.{always-enough}
@@ -114,12 +114,12 @@ module _ (t : List ℕ) (register question : ℕ) where
         }
       where
         no-order : NoOrder t register question
-        no-order l a = n _ (atomic-orders t register (p .screened) l a)
+        no-order l a = n _ (orders-of-rows t register _ l .1 (p .screened) a .2)
     outcome-said out f (is-fresh {o = o} p l i) =
         record {
           decided = (λ c. askable p, λ k. inl refl);
-          fresh-exactly = (λ c. (askable p, (rowNumbers o, orders-atomic t register i)), λ k. refl);
-          stale-exactly = (λ c. absurd (omega (arith, c)), λ k. absurd (k .1 (rowNumbers o) (orders-atomic t register i)));
+          fresh-exactly = (λ c. (askable p, (rowNumbers o, orders-of-rows t register _ _ .0 (_, refl, i))), λ k. refl);
+          stale-exactly = (λ c. absurd (omega (arith, c)), λ k. absurd (k .1 (rowNumbers o) (orders-of-rows t register _ _ .0 (_, refl, i))));
           unspent = λ c. omega (arith, c);
         }
 

@@ -26,7 +26,8 @@ use Rattle.witnesses.proofs.Parts.{witness-sub, Closed, proper-keep}
 use Rattle.witnesses.proofs.Positions.{orders-witness, witness-orders}
 use Rattle.witnesses.proofs.Runs.{orders-wider}
 use Rattle.meaning.specs.Marked.{Passes, Enough, trialsOf, Marked, is-refused, is-spent, is-stale, is-fresh}
-use Rattle.preparation.proofs.Timed.{RowsRise, kind-read, screened-proper}
+use Rattle.preparation.specs.Claims.{RowsRise}
+use Rattle.preparation.proofs.Timed.{kind-read, screened-proper}
 use Rattle.meaning.proofs.Methods.{always-enough, enough}
 use Rattle.meaning.proofs.Outcomes.{marked?, same-outcome, refused-same}
 
@@ -137,7 +138,6 @@ screened-keep {h = h} p c s =
       few = s .few;
       kinds = λ o m. s .kinds o (sub o m);
       spans = λ o m. s .spans o (sub o m);
-      stamps = λ x y m n. s .stamps x y (sub x m) (sub y n);
       values = λ x y m n. s .values x y (sub x m) (sub y n);
       written = λ r m k. let (w, i, d) = s .written r (sub r m) k in (w, keep-in p h i (c w r (dictated w r i (sub r m) d) (in-keep p h m .1)), d);
       timely = λ w r m n. s .timely w r (sub w m) (sub r n);

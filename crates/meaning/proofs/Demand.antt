@@ -17,7 +17,7 @@ use Rattle.witnesses.specs.Histories.{Apart}
 use Rattle.witnesses.specs.Orders.{Orders}
 use Rattle.meaning.specs.Marked.{Marked, is-refused, is-spent, is-stale, is-fresh}
 use Rattle.meaning.specs.Demand.{Allowed, SomeOrder, NoOrder, Written, Demand}
-use Rattle.preparation.proofs.Rows.{history-rows, orders-atomic, atomic-orders}
+use Rattle.preparation.proofs.Rows.{history-rows, orders-of-rows}
 use Rattle.meaning.proofs.Methods.{enough}
 use Rattle.meaning.proofs.Outcomes.{marked?, same-outcome}
 
@@ -44,16 +44,16 @@ module _ (t : List ℕ) (register question allowance : ℕ) (list : List ℕ) wh
   written {o} i =
       record {
         order = rowNumbers o;
-        atomic = orders-atomic t register i;
+        atomic = orders-of-rows t register k _ .0 (_, refl, i);
         rows = length-map o (λ x. x .row) ∙ order-length rows-apart i;
         kept = refl;
       }
 
   some : {o : List Op} → Orders k h o → SomeOrder t register question
-  some {o} i = (rowNumbers o, orders-atomic t register i)
+  some {o} i = (rowNumbers o, orders-of-rows t register k _ .0 (_, refl, i))
 
   none : Screened (length t) h → ((o : List Op) → Orders k h o → ⊥) → NoOrder t register question
-  none s n l a = n _ (atomic-orders t register s l a)
+  none s n l a = n _ (orders-of-rows t register k l .1 s a .2)
 
   demand : (out : Outcome) → out ≡ mark t register question allowance list → Marked (length t) h question allowance list out → Demand t register question allowance list out
   unfolding mark
@@ -103,7 +103,7 @@ module _ (t : List ℕ) (register question allowance : ℕ) (list : List ℕ) wh
       record {
         decided = λ r f. inl refl;
         fresh-exactly = λ r f. (λ c. some i, λ s. refl);
-        stale-exactly = λ r f. (λ c. absurd (omega (arith, c)), λ n. absurd (n (rowNumbers o) (orders-atomic t register i)));
+        stale-exactly = λ r f. (λ c. absurd (omega (arith, c)), λ n. absurd (n (rowNumbers o) (orders-of-rows t register k _ .0 (_, refl, i))));
         order = λ c. written i;
         untouched = λ c. absurd (c refl);
         no-order = λ c. absurd (omega (arith, c));

@@ -25,7 +25,7 @@ use Rattle.viability.proofs.Two.{fzf-decides}
 use Rattle.walks.proofs.Decides.{lbt-decides, few-trials, within-half}
 use Rattle.meaning.specs.Marked.{Enough, trialsOf}
 use Rattle.preparation.proofs.Counts.{count-prepared}
-use Rattle.preparation.proofs.Shorten.{prepared-history, prepared-orders, orders-rows}
+use Rattle.preparation.proofs.Shorten.{prepared-history, keeps-orders}
 
 -- Zones, LBT and FZF, by their question.
 method-decides : (question : ℕ) (H : List Op) → (question ≡ 1) ⊎ (question ≡ 2) ⊎ (question ≡ 3) → Prepared H → Decides (kOf question) H (method question H .decision)
@@ -44,9 +44,9 @@ module _ {size : ℕ} {h : List Op} (s : Screened size h) (a : Pairs (λ x y. x 
   method-settles asked = go _ (method-decides question (prepared h) asked (prepared-history s a))
     where
       go : (d : Decision) → Decides (kOf question) (prepared h) d → Settles (kOf question) h d
-      go none (no-order n) = settles-none (λ o k. n _ (prepared-orders s a k))
+      go none (no-order n) = settles-none (λ o k. n _ (keeps-orders s a _ _ .1 (o, refl, k) .2))
       go (order p) (an-order k) =
-          let (o, e, i) = orders-rows s a k in
+          let (o, e, i) = keeps-orders s a _ _ .0 (p, refl, k) in
           settles-order {p = p} {o = o} e i
 
   -- 2W - 1 trials are always enough, and W (W + 1) / 2 are no fewer

@@ -1,4 +1,4 @@
--- Further histories, on which near readings of document 01 differ that may agree on C1 to C10: one table, and one theorem.
+-- Further histories, on which near readings of documents 01 and 02 differ that may agree on C1 to C10: one table, and one theorem.
 -- Assumes nothing.
 use Prim.Native.Nat.{ℕ, _-_, _^_}
 use mathlib.Core.Path.{_≡_, refl}
@@ -89,19 +89,40 @@ joins = stranger ++ W b 5 15 ++ W a 1 2 ++ R a 10 11
 abbrev reachesAround : List ℕ
 reachesAround = W a 5 6 ++ W b 1 20
 
+-- Ties (document 02, W-203).
+
+-- Operations that touch are concurrent, whatever their rows: the write of b may stand before that of a.
+abbrev touching : List ℕ
+touching = W a 1 2 ++ W b 2 3 ++ R a 3 4
+
+-- Of two that start and finish together, the one of the lower row comes first.
+abbrev together : List ℕ
+together = W b 1 5 ++ W a 1 5
+
+-- Rows that start and finish at one stamp; a read that touches its write is not early.
+abbrev instants : List ℕ
+instants = R a 5 5 ++ W a 5 5 ++ W b 5 5 ++ R b 5 5
+
+-- Reads of one write with equal starts go by row.
+abbrev equalStarts : List ℕ
+equalStarts = R a 3 5 ++ R a 3 4 ++ W a 1 2 ++ R a 3 4
+
+-- A read that finishes with its write shortens it where its row is the lower one.
+abbrev shortensLower : List ℕ
+shortensLower = R a 2 4 ++ W a 1 4 ++ W b 3 4
+
+abbrev shortensNot : List ℕ
+shortensNot = W b 3 4 ++ W a 1 4 ++ R a 2 4
+
 -- Refusals: two rows with a fault of one test and, at a lower row, a fault of the following test.
 
 -- Test 4 at rows 2 and 3, test 5 at row 1.
 abbrev wrongKinds : List ℕ
-wrongKinds = stranger ++ W a 4 4 ++ (7 ∷ 3 ∷ a ∷ 1 ∷ 2 ∷ []) ++ (7 ∷ 0 ∷ a ∷ 5 ∷ 6 ∷ [])
+wrongKinds = stranger ++ W a 5 4 ++ (7 ∷ 3 ∷ a ∷ 1 ∷ 2 ∷ []) ++ (7 ∷ 0 ∷ a ∷ 5 ∷ 6 ∷ [])
 
--- Test 5 at rows 3 and 4, test 6 at row 2.
+-- Test 5 at rows 3 and 4, test 7 at row 2.
 abbrev wrongSpans : List ℕ
-wrongSpans = stranger ++ W a 1 4 ++ W b 4 5 ++ R a 7 6 ++ R b 8 8
-
--- Test 6 at rows 3 and 4, test 7 at row 2.
-abbrev sharedStamps : List ℕ
-sharedStamps = stranger ++ W a 1 4 ++ W a 2 3 ++ R a 4 6 ++ R a 2 7
+wrongSpans = stranger ++ W a 1 4 ++ W a 4 5 ++ R a 7 6 ++ R b 9 8
 
 -- Test 7 at rows 3 and 4, test 8 at row 1.
 abbrev twinWrites : List ℕ
@@ -111,7 +132,7 @@ twinWrites = stranger ++ R b 7 8 ++ W a 1 4 ++ W a 2 3 ++ W a 5 6
 abbrev orphanReads : List ℕ
 orphanReads = stranger ++ R a 1 2 ++ W a 3 4 ++ R b 5 6 ++ R c 7 8
 
--- Test 9 at rows 2 and 3; the stamp 9 of another register is not shared.
+-- Test 9 at rows 2 and 3.
 abbrev earlyReads : List ℕ
 earlyReads = stranger ++ W a 5 9 ++ R a 2 4 ++ R a 1 3
 
@@ -173,6 +194,15 @@ further =
     ∷ case (marks joins 3 9 lent) (gives 0 0 3 0 (2 ∷ 3 ∷ 1 ∷ 93 ∷ 94 ∷ 95 ∷ 96 ∷ []))
     ∷ case (marks reachesAround 1 9 lent) (gives 0 0 2 0 (1 ∷ 0 ∷ 92 ∷ 93 ∷ 94 ∷ 95 ∷ 96 ∷ []))
     ∷ case (marks reachesAround 3 9 lent) (gives 0 0 2 0 (1 ∷ 0 ∷ 92 ∷ 93 ∷ 94 ∷ 95 ∷ 96 ∷ []))
+    -- ties
+    ∷ case (marks touching 1 9 lent) (gives 0 0 3 0 (1 ∷ 0 ∷ 2 ∷ 93 ∷ 94 ∷ 95 ∷ 96 ∷ []))
+    ∷ case (marks touching 2 9 lent) (gives 0 0 3 2 (0 ∷ 2 ∷ 1 ∷ 93 ∷ 94 ∷ 95 ∷ 96 ∷ []))
+    ∷ case (marks together 1 9 lent) (gives 0 0 2 0 (0 ∷ 1 ∷ 92 ∷ 93 ∷ 94 ∷ 95 ∷ 96 ∷ []))
+    ∷ case (marks together 2 9 lent) (gives 0 0 2 2 (0 ∷ 1 ∷ 92 ∷ 93 ∷ 94 ∷ 95 ∷ 96 ∷ []))
+    ∷ case (marks instants 3 9 lent) (gives 0 0 4 0 (1 ∷ 0 ∷ 2 ∷ 3 ∷ 94 ∷ 95 ∷ 96 ∷ []))
+    ∷ case (marks equalStarts 3 9 lent) (gives 0 0 4 0 (2 ∷ 0 ∷ 1 ∷ 3 ∷ 94 ∷ 95 ∷ 96 ∷ []))
+    ∷ case (marks shortensLower 2 9 lent) (gives 0 0 3 2 (1 ∷ 0 ∷ 2 ∷ 93 ∷ 94 ∷ 95 ∷ 96 ∷ []))
+    ∷ case (marks shortensNot 2 9 lent) (gives 0 0 3 2 (0 ∷ 1 ∷ 2 ∷ 93 ∷ 94 ∷ 95 ∷ 96 ∷ []))
     -- refusals in marking: 1 before 2, and so on
     ∷ case (marks (C2 ++ 7 ∷ []) 1 9 lent) (gives 1 0 0 0 lent)
     ∷ case (marks tooManyAndRagged 1 9 lent) (gives 1 0 0 0 lent)
@@ -181,7 +211,6 @@ further =
     ∷ case (marks wrongKinds 4 9 lent) (gives 3 0 0 0 lent)
     ∷ case (marks wrongKinds 1 9 lent) (gives 4 2 0 0 lent)
     ∷ case (marks wrongSpans 2 9 lent) (gives 5 3 0 0 lent)
-    ∷ case (marks sharedStamps 3 9 lent) (gives 6 3 0 0 lent)
     ∷ case (marks twinWrites 1 9 lent) (gives 7 3 0 0 lent)
     ∷ case (marks orphanReads 2 9 lent) (gives 8 3 0 0 lent)
     ∷ case (marks earlyReads 3 9 (90 ∷ [])) (gives 9 2 0 0 (90 ∷ []))
@@ -198,7 +227,6 @@ further =
     ∷ case (checks wrongKinds 0 []) (gives 3 0 0 0 [])
     ∷ case (checks wrongKinds 1 []) (gives 4 2 0 0 [])
     ∷ case (checks wrongSpans 1 []) (gives 5 3 0 0 [])
-    ∷ case (checks sharedStamps 1 []) (gives 6 3 0 0 [])
     ∷ case (checks twinWrites 1 []) (gives 7 3 0 0 [])
     ∷ case (checks orphanReads 1 []) (gives 8 3 0 0 [])
     ∷ case (checks earlyReads 1 []) (gives 9 2 0 0 [])
@@ -219,6 +247,9 @@ further =
     ∷ case (checks misplaced 2 (4 ∷ 1 ∷ 2 ∷ 3 ∷ [])) (gives 0 0 4 0 (4 ∷ 1 ∷ 2 ∷ 3 ∷ []))
     ∷ case (checks C3 2 (0 ∷ 1 ∷ 2 ∷ 3 ∷ [])) (gives 15 3 0 0 (0 ∷ 1 ∷ 2 ∷ 3 ∷ []))
     ∷ case (checks C3 (2 ^ 64 - 1) (0 ∷ 1 ∷ 2 ∷ 3 ∷ [])) (gives 0 0 4 0 (0 ∷ 1 ∷ 2 ∷ 3 ∷ []))
+    -- touching operations stand in either order
+    ∷ case (checks touching 1 (1 ∷ 0 ∷ 2 ∷ [])) (gives 0 0 3 0 (1 ∷ 0 ∷ 2 ∷ []))
+    ∷ case (checks touching 2 (0 ∷ 1 ∷ 2 ∷ [])) (gives 0 0 3 0 (0 ∷ 1 ∷ 2 ∷ []))
     -- 15 for a read before its write; two orders of concurrent writes
     ∷ case (checks C7 2 (1 ∷ 0 ∷ [])) (gives 15 0 0 0 (1 ∷ 0 ∷ []))
     ∷ case (checks C4 1 (2 ∷ 0 ∷ 1 ∷ [])) (gives 0 0 3 0 (2 ∷ 0 ∷ 1 ∷ []))

@@ -10,6 +10,7 @@ use Rattle.lists.specs.Sorts.{sort}
 use Rattle.history.specs.declared.Op.{Op}
 use Rattle.history.specs.Table.{isWrite}
 use Rattle.methods.specs.Extremes.{least}
+use Rattle.methods.specs.Ranks.{stamped, ranked}
 
 -- no write: in a prepared history, a read (01, "The row": kind 1 or 2)
 abbrev pub noWrite : Op → Bool
@@ -48,11 +49,11 @@ newFinish h o = cond (isWrite o) (shortened o (cutting h o)) (2 * o .finish)
 
 -- the operation with its new stamps, and the history with them (01, "Doubled stamps")
 abbrev pub short : List Op → Op → Op
-short h o = record { row = o .row; kind = o .kind; value = o .value; start = 2 * o .start; finish = newFinish h o }
+short h o = stamped (2 * o .start) (newFinish h o) o
 
 abbrev pub shorten : List Op → List Op
 shorten h = map (short h) h
 
 -- the history that zones, LBT and FZF work on (01, "Doubled stamps")
 unfoldable pub prepared : List Op → List Op
-prepared h = shorten (byStart h)
+prepared h = shorten (byStart (ranked h))

@@ -2,13 +2,14 @@
 -- Assumes nothing.
 use Prim.Native.Nat.{ℕ, zero, suc, _+_, _-_, _<_}
 use mathlib.Core.Path.{_≡_, refl, sym, ap, _∙_}
-use mathlib.Core.Bool.{Bool, true, false}
+use mathlib.Core.Bool.{Bool}
 use mathlib.Core.List.{List, [], _∷_, _++_, map, append-assoc, List·Memᴰ as In, List·Memᴰ·head as here, List·Memᴰ·tail as there}
 use native.Mathlib.Omega.{arith}
-use lib.ListN.{length, getD, take, drop, length-append}
+use lib.ListN.{length, getD, take, drop, length-append, length-map}
 use lib.Seq.{getD-append-seam, take-append-seam}
-use Rattle.lists.specs.Lists.{put, keep}
+use Rattle.lists.specs.Lists.{keep}
 use Rattle.lists.specs.Pairs.{Pairs, nil, cons}
+use Rattle.lists.proofs.Images.{keep-map}
 use Rattle.lists.proofs.Cover.{in-at, at-in}
 
 -- Where R holds between each element and every later one: two members are one, or R holds between them in the one or the other sequence.
@@ -63,13 +64,7 @@ module _ {A B : Type 0} (f : A → B) where
 
   -- an image has as many elements that pass
   pub count-map : (p : B → Bool) (l : List A) → length (keep p (map f l)) ≡ length (keep (λ x. p (f x)) l)
-  unfolding keep put
-  count-map p [] = refl
-  count-map p (x ∷ l) = go (p (f x)) (count-map p l)
-    where
-      go : (b : Bool) → length (keep p (map f l)) ≡ length (keep (λ y. p (f y)) l) → length (put b (f x) (keep p (map f l))) ≡ length (put b x (keep (λ y. p (f y)) l))
-      go true h = ap suc h
-      go false h = h
+  count-map p l = ap length (keep-map f p l) ∙ length-map (keep (λ x. p (f x)) l) f
 
 -- A list cut at two positions, p and then q: what stands there, and what between.
 pub record Cut (l : List ℕ) (p q : ℕ) : Type 0 where

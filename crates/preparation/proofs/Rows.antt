@@ -22,12 +22,17 @@ use Rattle.methods.specs.Place.{writeCount}
 use Rattle.methods.specs.Mark.{rowNumbers}
 use Rattle.witnesses.specs.Orders.{Before, Orders}
 use Rattle.witnesses.proofs.Runs.{Near, passed, runs-near, near-runs}
+use Rattle.preparation.specs.Claims.{RowsRise, OrdersOfRows}
 use Rattle.preparation.proofs.Lists.{pairs-at, at-pairs, Split, map-split, count-map, Cut, cut-places, cut-one, cut-middle}
-use Rattle.preparation.proofs.Timed.{RowsRise, read-kind, kind-read}
+use Rattle.preparation.proofs.Timed.{read-kind, kind-read}
 
 row-at : (t : List ℕ) (i : ℕ) → opAt t i .row ≡ i
 unfolding opAt
 row-at t i = refl
+
+rows-at : (t l : List ℕ) → l ≡ rowNumbers (map (opAt t) l)
+rows-at t [] = refl
+rows-at t (i ∷ l) = ap₂ (λ j r. j ∷ r) (sym (row-at t i)) (rows-at t l)
 
 pub history-rows : (t : List ℕ) (register : ℕ) → RowsRise (history t register)
 unfolding history opAt
@@ -182,8 +187,8 @@ module _ (t : List ℕ) (register : ℕ) where
             runs = near-runs (map (opAt t) l) (λ a r c e n. near (map-split (opAt t) l a r c e) n);
           }
 
-  pub orders-atomic : {k : ℕ} {o : List Op} → Orders k (history t register) o → Atomic k t register (rowNumbers o)
-  orders-atomic {o = o} h = placed-atomic (rowNumbers o) (rw (by-rows o (h .from)) at h)
-
-  pub atomic-orders : {k : ℕ} → Screened (length t) (history t register) → (l : List ℕ) → Atomic k t register l → Orders k (history t register) (map (opAt t) l)
-  atomic-orders s l h = placed-orders l s h
+pub orders-of-rows : (t : List ℕ) (register : ℕ) → OrdersOfRows t register
+orders-of-rows t register k rows = (
+  λ (o, e, h). rw e (placed-atomic t register (rowNumbers o) (rw (by-rows t register o (h .from)) at h)),
+  λ s h. (map (opAt t) rows, rows-at t rows, placed-orders t register rows s h),
+)

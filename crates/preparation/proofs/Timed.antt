@@ -1,23 +1,31 @@
 -- What the screening leaves, in the words of histories: a history whose stamps differ and in which no read precedes its write.
 -- Assumes nothing.
 use Prim.Native.Nat.{ℕ, _≤_, _<_}
-use mathlib.Core.Path.{_≡_, sym, ap}
+use mathlib.Core.Path.{_≡_, refl, sym, ap}
 use mathlib.Core.Logic.{_⊎_, inl, inr, _≢_}
 use mathlib.Core.Bool.{false}
-use mathlib.Core.List.{List, List·Memᴰ as In}
+use mathlib.Core.List.{List, map, List·Memᴰ as In}
 use native.Mathlib.Omega.{arith}
+use native.Mathlib.Decide.{decLt}
 use Rattle.lists.specs.Pairs.{Pairs}
 use Rattle.lists.proofs.Tests.{told-true, true-told, told-false, false-told}
-use Rattle.lists.proofs.Pairs.{pairs-map}
+use Rattle.lists.proofs.Maps.{in-map}
+use Rattle.lists.proofs.Pairs.{pairs-map, pairs-both, pairs-image}
 use Rattle.lists.proofs.Sorts.{in-sort, sort-in, by-key}
 use Rattle.history.specs.declared.Op.{Op}
 use Rattle.history.specs.Table.{isWrite}
 use Rattle.history.specs.Screen.{Screened}
 use Rattle.history.proofs.Operations.{told-write}
+use Rattle.methods.specs.Ranks.{starting, finishing, rank, byRank, ranked}
 use Rattle.methods.specs.Prepared.{startsFirst, byStart}
 use Rattle.witnesses.specs.Histories.{Write, Reads, Apart, Proper}
+use Rattle.witnesses.specs.Orders.{Orders}
+use Rattle.witnesses.proofs.Places.{bef-in, bef-in₂, bef-pair}
 use Rattle.witnesses.proofs.Parts.{write-sub, reads-sub}
+use Rattle.preparation.specs.Claims.{RowsRise}
 use Rattle.preparation.proofs.Lists.{Met, alike, ahead, behind, met}
+use Rattle.preparation.proofs.Ranks.{start-in, finish-in, ranks-differ, precedes-ranked, meets-ranked}
+use Rattle.preparation.proofs.Stamped.{reads-of, proper-on, orders-on, orders-back}
 
 -- A history by rising start, as the screening leaves it: a prepared one but for the writes that finish after a read of theirs.
 pub record Timed (H : List Op) : Type 0 where
@@ -27,12 +35,9 @@ pub record Timed (H : List Op) : Type 0 where
   pub ends : (x y : Op) → In x H → In y H → x .finish ≡ y .finish → x ≡ y
   pub timely : (w r : Op) → Reads H w r → w .start ≤ r .finish
 
--- x stands in a lower row than y; and the rows of a history's operations rise
+-- x stands in a lower row than y
 abbrev Lower : Op → Op → Type 0
 Lower x y = x .row < y .row
-
-abbrev pub RowsRise : List Op → Type 0
-RowsRise h = Pairs Lower h
 
 -- the kinds are two: a read is no write, and what is no write is a read
 pub kind-read : (r : Op) → r .kind ≡ 2 → isWrite r ≡ false
@@ -47,16 +52,6 @@ module _ {size : ℕ} {h : List Op} (s : Screened size h) where
       go (inr k) = k
 
   -- what the tests say of an earlier and a later row, for any two operations
-  cross : (x y : Op) → In x h → In y h → Met Lower x y → x .finish ≢ y .start
-  cross x y m n (alike d) e = omega (arith, s .spans x m .0, ap (λ o. o .start) d)
-  cross x y m n (ahead l) e = s .stamps x y m n l .2 e
-  cross x y m n (behind l) e = s .stamps y x n m l .1 (sym e)
-
-  ends : (x y : Op) → In x h → In y h → Met Lower x y → x .finish ≡ y .finish → x ≡ y
-  ends x y m n (alike d) e = d
-  ends x y m n (ahead l) e = absurd (s .stamps x y m n l .3 e)
-  ends x y m n (behind l) e = absurd (s .stamps y x n m l .3 (sym e))
-
   one : (x y : Op) → Write h x → Write h y → Met Lower x y → x .value ≡ y .value → x ≡ y
   one x y u v (alike d) e = d
   one x y u v (ahead l) e = absurd (s .values x y (u .mem) (v .mem) l (told-true (told-write x) (u .write)) (told-true (told-write y) (v .write)) e)
@@ -84,6 +79,47 @@ module _ {size : ℕ} {h : List Op} (s : Screened size h) where
           dict = dict;
         }
 
+-- WITH RANKS FOR STAMPS no two stamps are equal, and all else is as the screening leaves it.
+module _ {size : ℕ} {h : List Op} (s : Screened size h) (a : RowsRise h) where
+  starts : (x y : Op) → In x h → In y h → Met Lower x y → byRank h x .start ≡ byRank h y .start → x ≡ y
+  starts x y m n (alike d) e = d
+  starts x y m n (ahead l) e = absurd (ranks-differ h (start-in h m) (start-in h n) refl l e)
+  starts x y m n (behind l) e = absurd (ranks-differ h (start-in h n) (start-in h m) refl l (sym e))
+
+  ends : (x y : Op) → In x h → In y h → Met Lower x y → byRank h x .finish ≡ byRank h y .finish → x ≡ y
+  ends x y m n (alike d) e = d
+  ends x y m n (ahead l) e = absurd (ranks-differ h (finish-in h m) (finish-in h n) refl l e)
+  ends x y m n (behind l) e = absurd (ranks-differ h (finish-in h n) (finish-in h m) refl l (sym e))
+
+  cross : (x y : Op) → In x h → In y h → byRank h x .finish ≢ byRank h y .start
+  cross x y m n e = go (decLt (x .finish) (y .start))
+    where
+      go : Dec (x .finish < y .start) → ⊥
+      go (yes l) = omega (arith, precedes-ranked h m n l)
+      go (no l) = omega (arith, meets-ranked h n m (omega arith))
+
+  ranked-proper : Proper (ranked h)
+  unfolding ranked
+  ranked-proper =
+      proper-on (λ o. rank h (starting o)) (λ o. rank h (finishing o)) h (screened-proper s a) (λ x m. omega (arith, meets-ranked h m m (s .spans x m .0)))
+
+  -- A HISTORY WITH RANKS has the orders of the history with stamps
+  pub orders-ranked : {k : ℕ} {o : List Op} → Orders k h o → Orders k (ranked h) (map (byRank h) o)
+  unfolding ranked
+  orders-ranked g =
+      orders-on (λ o. rank h (starting o)) (λ o. rank h (finishing o)) h g
+      (λ x y m. omega (arith, meets-ranked h (g .from x (bef-in m)) (g .from y (bef-in₂ m)) (bef-pair (g .pairs) m .valid)))
+
+  pub ranked-orders : {k : ℕ} {p : List Op} → Orders k (ranked h) p → (o : List Op) × (p ≡ map (byRank h) o) × Orders k h o
+  unfolding ranked
+  ranked-orders g =
+      orders-back (λ o. rank h (starting o)) (λ o. rank h (finishing o)) h (screened-proper s a)
+      (λ x y m n l. go x y (decLt (y .finish) (x .start)) (precedes-ranked h n m) l) g
+    where
+      go : (x y : Op) → Dec (y .finish < x .start) → (y .finish < x .start → byRank h y .finish < byRank h x .start) → byRank h x .start ≤ byRank h y .finish → x .start ≤ y .finish
+      go x y (yes k) f l = absurd (omega (arith, f k))
+      go x y (no k) f l = omega arith
+
 -- By rising start: the same members, and the starts, which all differ, rise.
 module _ {h : List Op} where
   pub from-sorted : (x : Op) → In x (byStart h) → In x h
@@ -94,20 +130,19 @@ module _ {h : List Op} where
   unfolding byStart
   into-sorted x m = sort-in startsFirst h m
 
-  module _ {size : ℕ} (s : Screened size h) (a : RowsRise h) where
+  module _ (differ : Pairs (λ x y. x .start ≢ y .start) h) (g : Proper h) where
     abbrev Differ : Op → Op → Type 0
     Differ x y = Apart x y × (x .start ≢ y .start)
 
     sorted : Pairs (λ x y. (x .start ≤ y .start) × Differ x y) (byStart h)
     unfolding byStart
-    sorted =
-        by-key
-        (λ x. x .start)
-        (λ x y d. (λ e. d .0 (sym e), λ e. d .1 (sym e)))
-        (pairs-map a (λ x y m n l. (λ e. omega arith, s .stamps x y m n l .0)))
+    sorted = by-key (λ x. x .start) (λ x y d. (λ e. d .0 (sym e), λ e. d .1 (sym e))) (pairs-both (g .rows) differ)
 
-    proper : Proper h → Proper (byStart h)
-    proper g =
+    pub sorted-rising : Pairs (λ x y. x .start < y .start) (byStart h)
+    sorted-rising = pairs-map sorted (λ x y m n d. omega (arith, d .0, d .1 .1))
+
+    pub sorted-proper : Proper (byStart h)
+    sorted-proper =
         record {
           rows = pairs-map sorted (λ x y m n d. d .1 .0);
           span = λ x m. g .span x (from-sorted x m);
@@ -115,12 +150,34 @@ module _ {h : List Op} where
           dict = λ r m e. let d = g .dict r (from-sorted r m) e in (d .0, reads-sub into-sorted (d .1));
         }
 
-    pub timed : Timed (byStart h)
-    timed =
-        record {
-          proper = proper (screened-proper s a);
-          rising = pairs-map sorted (λ x y m n d. omega (arith, d .0, d .1 .1));
-          cross = λ x y m n. let i = from-sorted x m in let j = from-sorted y n in cross s x y i j (met Lower a i j);
-          ends = λ x y m n. let i = from-sorted x m in let j = from-sorted y n in ends s x y i j (met Lower a i j);
-          timely = λ w r d. timely s w r (reads-sub from-sorted d);
-        }
+-- THE RANKED HISTORY BY RISING START
+module _ {size : ℕ} {h : List Op} (s : Screened size h) (a : RowsRise h) where
+  of : {y : Op} → In y (byStart (ranked h)) → (x : Op) × In x h × (y ≡ byRank h x)
+  unfolding ranked
+  of {y} m = in-map (byRank h) h (from-sorted y m)
+
+  starts-differ : Pairs (λ x y. x .start ≢ y .start) (ranked h)
+  unfolding ranked
+  starts-differ =
+      pairs-image (byRank h)
+      (pairs-map a (λ x y m n l e. omega (arith, ap (λ o. o .row) (starts s a x y m n (met Lower a m n) e))))
+
+  early : (w r : Op) → Reads (ranked h) w r → w .start ≤ r .finish
+  unfolding ranked
+  early w r d =
+      let (v, x, k, p, q) = reads-of (λ o. rank h (starting o)) (λ o. rank h (finishing o)) h d in
+      omega (arith, ap (λ o. o .start) p, ap (λ o. o .finish) q, meets-ranked h (k .by .mem) (k .mem) (timely s v x k))
+
+  pub timed : Timed (byStart (ranked h))
+  timed =
+      record {
+        proper = sorted-proper starts-differ (ranked-proper s a);
+        rising = sorted-rising starts-differ (ranked-proper s a);
+        cross = λ x y m n e. let (u, i, p) = of m in let (v, j, q) = of n in cross s a u v i j (cc (ap (λ o. o .finish) p, ap (λ o. o .start) q));
+        ends = λ x y m n e.
+            let (u, i, p) = of m in
+            let (v, j, q) = of n in
+            let z : u ≡ v = ends s a u v i j (met Lower a i j) (cc (ap (λ o. o .finish) p, ap (λ o. o .finish) q)) in
+            cc;
+        timely = λ w r d. early w r (reads-sub from-sorted d);
+      }

@@ -1,1 +1,2 @@
--- No definitions of its own: the prepared history is defined in the crate of the methods.
+-- What is claimed of a screened register's prepared history and of its orders.
+pub mod Claims

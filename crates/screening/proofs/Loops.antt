@@ -1,15 +1,13 @@
 -- The loops that gather the register's rows and list the stamps, with a law for each way through a turn.
 -- Assumes nothing.
-use Prim.Native.Nat.{ℕ, _+_, _*_, _≤_, _<_}
+use Prim.Native.Nat.{ℕ, _+_, _≤_, _<_}
 use mathlib.Core.Path.{_≡_, refl, ap, ap₂, sym, _∙_}
 use mathlib.Core.Bool.{true, false}
-use mathlib.Core.Logic.{_⊎_, inl, inr}
 use mathlib.Core.List.{List, [], _∷_, _++_, map, append-nil}
-use native.Mathlib.Nat.{eq-or-lt-of-le}
 use native.Mathlib.Numerals.{add-one}
 use native.Mathlib.Omega.{arith}
-use lib.ListN.{length, getD, take, set, length-set, length-take}
-use lib.Seq.{take-suc-set, length-take-le, getD-set-same, getD-set-other}
+use lib.ListN.{length, take, set, length-set, length-take}
+use lib.Seq.{take-suc-set, length-take-le}
 use Rattle.lists.specs.Lists.{keep, put, upTo, from}
 use Rattle.lists.proofs.Ranges.{up-to-more}
 use Rattle.lists.proofs.Images.{keep-append}
@@ -17,8 +15,7 @@ use Rattle.history.specs.Table.{largestCount, rowCount, opAt, bears, rowsOf, hi
 use Rattle.history.specs.declared.Answer.{Answer}
 use Rattle.history.specs.Answer.{firstMet, passed}
 use Rattle.history.proofs.Rows.{in-rows, rows-rise, rows-few, history-count}
-use Rattle.writers.specs.Writers.{rowOp}
-use Rattle.conditions.specs.Tests.{rowTests, Stamped, Listed}
+use Rattle.conditions.specs.Tests.{rowTests, Listed}
 
 module _ (t : List ℕ) (register : ℕ) (list₀ : List ℕ) where
   -- the first i rows are looked at, and m of them gathered
@@ -58,46 +55,6 @@ module _ (t : List ℕ) (register : ℕ) (list₀ : List ℕ) where
     where
       whole : take m list ≡ keep (bears t register) (upTo (rowCount t))
       whole = let e : i ≡ rowCount t = omega (arith, g .within) in g .front ∙ rw e
-
-module _ (t rows : List ℕ) where
-  -- the stamps of the first i rows are listed
-  pub record Stamping (i : ℕ) (out : List ℕ) : Type 0 where
-    pub within : i ≤ length rows
-    pub size : length out ≡ 2 * length rows
-    pub starts : (j : ℕ) → j < i → getD out (2 * j) 0 ≡ rowOp t rows j .start
-    pub finishes : (j : ℕ) → j < i → getD out (2 * j + 1) 0 ≡ rowOp t rows j .finish
-
-  pub stamp-none : (out : List ℕ) → length out ≡ 2 * length rows → Stamping 0 out
-  stamp-none out e = record { within = omega arith; size = e; starts = λ j l. absurd (omega arith); finishes = λ j l. absurd (omega arith) }
-
-  pub stamp-end : (i : ℕ) (out : List ℕ) → length rows ≤ i → Stamping i out → Stamped t rows out
-  stamp-end i out k g = record { size = g .size; starts = λ j l. g .starts j (omega arith); finishes = λ j l. g .finishes j (omega arith) }
-
-  module _ (i : ℕ) (out : List ℕ) (k : i < length rows) (g : Stamping i out) (start finish : ℕ) (s : start ≡ rowOp t rows i .start) (f : finish ≡ rowOp t rows i .finish) where
-    abbrev new : List ℕ
-    new = set (set out (2 * i) start) (2 * i + 1) finish
-
-    start-at : (j : ℕ) → (j ≡ i) ⊎ (j < i) → getD new (2 * j) 0 ≡ rowOp t rows j .start
-    start-at j (inl e) =
-        rw (e, getD-set-other (set out (2 * i) start) (2 * i + 1) (2 * i) finish 0 (λ q. omega arith), getD-set-same out (2 * i) start 0 (omega (arith, g .size))) s
-    start-at j (inr b) =
-        getD-set-other (set out (2 * i) start) (2 * i + 1) (2 * j) finish 0 (λ q. omega arith)
-        ∙ getD-set-other out (2 * i) (2 * j) start 0 (λ q. omega arith) ∙ g .starts j b
-
-    finish-at : (j : ℕ) → (j ≡ i) ⊎ (j < i) → getD new (2 * j + 1) 0 ≡ rowOp t rows j .finish
-    finish-at j (inl e) = rw (e, getD-set-same (set out (2 * i) start) (2 * i + 1) finish 0 (rw length-set (omega (arith, g .size)))) f
-    finish-at j (inr b) =
-        getD-set-other (set out (2 * i) start) (2 * i + 1) (2 * j + 1) finish 0 (λ q. omega arith)
-        ∙ getD-set-other out (2 * i) (2 * j + 1) start 0 (λ q. omega arith) ∙ g .finishes j b
-
-    pub stamp-more : Stamping (i + 1) new
-    stamp-more =
-        record {
-          within = omega arith;
-          size = length-set (set out (2 * i) start) (2 * i + 1) finish ∙ length-set out (2 * i) start ∙ g .size;
-          starts = λ j l. start-at j (eq-or-lt-of-le (omega arith));
-          finishes = λ j l. finish-at j (eq-or-lt-of-le (omega arith));
-        }
 
 -- What is gathered are the register's rows: they can be examined, and their operations are its history.
 module _ (t : List ℕ) (register m : ℕ) (rows : List ℕ) (few : rowCount t ≤ largestCount) (g : (m ≡ length (rowsOf t register)) × (take m rows ≡ rowsOf t register)) where

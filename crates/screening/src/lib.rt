@@ -1,6 +1,5 @@
 // The screening of a register: tests 1, 2 and 4 to 9 of the table, each over the whole register before the next.
 use history::Answer;
-use history::Op;
 use history::Row;
 ghost use mathlib.Core.Path.{_≡_};
 ghost use mathlib.Core.Logic.{_↔_};
@@ -11,7 +10,7 @@ ghost use Rattle.history.specs.Table.{largestCount, rowCount, opAt, bears, rows
 ghost use Rattle.history.specs.Answer.{firstMet, passed};
 ghost use Rattle.history.specs.Screen.{examined, screening, Screened};
 ghost use Rattle.history.proofs.Searches.{oneIf};
-ghost use Rattle.conditions.specs.Tests.{rowTests, Stamped, Listed, Filled};
+ghost use Rattle.conditions.specs.Tests.{rowTests, Listed};
 ghost use Rattle.screening.specs.Ready.{Ready};
 
 // 1 where the row bears the register, else 0.
@@ -58,58 +57,20 @@ fn gather(table: &[u64], register: u64, rows: &mut [u64]) -> usize
     m
 }
 
-// The stamps of the rows, two a row.
-fn stamps_of(table: &[u64], rows: &[u64], out: &mut [u64])
-    requires { ⌜ Listed (now table) (now rows) ⌝ }
-    requires { ⌜ length (now out) ≡ 2 * length (now rows) ⌝ }
-    ensures { λ _. ⌜ Stamped (now (table .entry)) (now (rows .entry)) (now (out .exit)) ⌝ }
-{
-    let mut i: usize = 0;
-    while i < rows.len() {
-        let o = Op::at(table, rows[i] as usize);
-        let own = 2 * i;
-        out[own] = o.start;
-        out[own + 1] = o.finish;
-        i += 1;
-    }
-}
-
-// What tests 6 to 9 look at: the stamps of the rows, the first place of each stamp, and the write of each row.
-fn fill(table: &[u64], rows: &[u64], stamps: &mut [u64], firsts: &mut [u64], writer: &mut [u64])
-    requires { ⌜ Ready (now table) (now rows) (now stamps) (now firsts) (now writer) ⌝ }
-    ensures { λ _. ⌜ Filled (now (table .entry)) (now (rows .entry)) (now (stamps .exit)) (now (firsts .exit)) (now (writer .exit)) ⌝ }
-{
-    stamps_of(table, rows, stamps);
-    holders::firsts(stamps, firsts);
-    writers::writers(table, rows, writer);
-}
-
 // Tests 4 to 9 of the rows, with places for what they look at.
-fn examine_rows(
-    table: &[u64],
-    rows: &[u64],
-    stamps: &mut [u64],
-    firsts: &mut [u64],
-    writer: &mut [u64],
-) -> Answer
-    requires { ⌜ Ready (now table) (now rows) (now stamps) (now firsts) (now writer) ⌝ }
+fn examine_rows(table: &[u64], rows: &[u64], writer: &mut [u64]) -> Answer
+    requires { ⌜ Ready (now table) (now rows) (now writer) ⌝ }
     ensures { λ r. ⌜ r ≡ firstMet (rowTests (map (opAt (now (table .entry))) (now (rows .entry)))) (passed (length (now (rows .entry)))) ⌝ }
 {
-    fill(table, rows, stamps, firsts, writer);
-    conditions::test_rows(table, rows, firsts, writer)
+    writers::writers(table, rows, writer);
+    conditions::test_rows(table, rows, writer)
 }
 
-// So many rows are few: short arrays do for them, which are sooner cleared than the long ones. Each row has two stamps.
+// So many rows are few: a short array does for them, which is sooner cleared than a long one.
 const FEW: usize = 32;
 
-const FEW_STAMPS: usize = 64;
-
-// Up to so many, arrays of a middle size do.
+// Up to so many, an array of a middle size does.
 const SOME: usize = 256;
-
-const SOME_STAMPS: usize = 512;
-
-const LARGEST_STAMPS: usize = 2048;
 
 // Tests 4 to 9 of few rows.
 fn examine_few(table: &[u64], rows: &[u64]) -> Answer
@@ -118,17 +79,8 @@ fn examine_few(table: &[u64], rows: &[u64]) -> Answer
     ensures { λ r. ⌜ r ≡ firstMet (rowTests (map (opAt (now (table .entry))) (now (rows .entry)))) (passed (length (now (rows .entry)))) ⌝ }
 {
     let n = rows.len();
-    let m = 2 * n;
-    let mut stamps = [0u64; FEW_STAMPS];
-    let mut firsts = [0u64; FEW_STAMPS];
     let mut writer = [0u64; FEW];
-    examine_rows(
-        table,
-        rows,
-        &mut stamps[..m],
-        &mut firsts[..m],
-        &mut writer[..n],
-    )
+    examine_rows(table, rows, &mut writer[..n])
 }
 
 // The same for up to 256 rows.
@@ -138,17 +90,8 @@ fn examine_some(table: &[u64], rows: &[u64]) -> Answer
     ensures { λ r. ⌜ r ≡ firstMet (rowTests (map (opAt (now (table .entry))) (now (rows .entry)))) (passed (length (now (rows .entry)))) ⌝ }
 {
     let n = rows.len();
-    let m = 2 * n;
-    let mut stamps = [0u64; SOME_STAMPS];
-    let mut firsts = [0u64; SOME_STAMPS];
     let mut writer = [0u64; SOME];
-    examine_rows(
-        table,
-        rows,
-        &mut stamps[..m],
-        &mut firsts[..m],
-        &mut writer[..n],
-    )
+    examine_rows(table, rows, &mut writer[..n])
 }
 
 // The same for as many rows as a table has.
@@ -158,17 +101,8 @@ fn examine_many(table: &[u64], rows: &[u64]) -> Answer
     ensures { λ r. ⌜ r ≡ firstMet (rowTests (map (opAt (now (table .entry))) (now (rows .entry)))) (passed (length (now (rows .entry)))) ⌝ }
 {
     let n = rows.len();
-    let m = 2 * n;
-    let mut stamps = [0u64; LARGEST_STAMPS];
-    let mut firsts = [0u64; LARGEST_STAMPS];
     let mut writer = [0u64; Row::LARGEST_COUNT];
-    examine_rows(
-        table,
-        rows,
-        &mut stamps[..m],
-        &mut firsts[..m],
-        &mut writer[..n],
-    )
+    examine_rows(table, rows, &mut writer[..n])
 }
 
 // Tests 4 to 9 of a register, with a place for each row of the table.

@@ -1,5 +1,6 @@
 // Small random histories: the mark of each question against a trial of all orders, each judged by the order check. A history that the screening
-// refuses is passed over. A line for each question counts the histories compared, the marks and the differences; held to the file stdout.
+// refuses is passed over. A line for each question counts the histories compared, those with equal stamps, the marks and the differences; held to
+// the file stdout.
 use history::Answer;
 use history::Op;
 use history::Row;
@@ -69,7 +70,7 @@ fn value(table: &[u64], i: usize, kind: u64, x: u64) -> u64
     table[j * Row::COLUMNS + Row::VALUE]
 }
 
-// Puts operation i into its row: it takes effect at a time of its own, and begins and ends up to `reach` away from it.
+// Puts operation i into its row: it takes effect at a time of its own, and begins and ends less than `reach` away from it. Stamps may be equal.
 fn operation(table: &mut [u64], i: usize, reach: u64, seed: u64) -> u64
     requires { ⌜ (i * 5 + 5 ≤ length (now table)) × (i < 6) × (0 < reach) × (reach ≤ 100) ⌝ }
 {
@@ -79,15 +80,15 @@ fn operation(table: &mut [u64], i: usize, reach: u64, seed: u64) -> u64
     let b = next(a);
     let c = next(b);
     let number = i as u64;
-    let at = 100 + 10 * number;
+    let at = 100 + 2 * number;
     let start = at - pick(b, reach);
-    let finish = at + 1 + pick(c, reach);
+    let finish = at + pick(c, reach);
     let base = i * Row::COLUMNS;
     table[base + Row::REGISTER] = REGISTER;
     table[base + Row::KIND] = kind;
     table[base + Row::VALUE] = value;
-    table[base + Row::START] = start * 16 + 2 * number;
-    table[base + Row::FINISH] = finish * 16 + 2 * number + 1;
+    table[base + Row::START] = start;
+    table[base + Row::FINISH] = finish;
     next(c)
 }
 
@@ -160,7 +161,7 @@ fn history(table: &mut [u64], seed: u64) -> u64
     requires { ⌜ length (now table) ≤ 30 ⌝ }
 {
     let a = next(seed);
-    let reach = 2 + 4 * pick(a, 5);
+    let reach = 1 + pick(a, 5);
     let b = fill(table, reach, a);
     let c = mix(table, b);
     spoil(table, c)
@@ -219,7 +220,49 @@ fn agrees(table: &[u64], question: u64, k: u64, fresh: bool, list: &mut [u64]) -
     orders::check(table, REGISTER, k, list).code == Answer::FRESH
 }
 
-fn more(count: u64) -> u64 {
+// Whether one of the first rows has the stamp.
+fn has(table: &[u64], rows: usize, stamp: u64) -> bool
+    requires { ⌜ rows * 5 ≤ length (now table) ⌝ }
+{
+    let mut i: usize = 0;
+    while i < rows {
+        let o = Op::at(table, i);
+        if o.start == stamp {
+            return true;
+        }
+        if o.finish == stamp {
+            return true;
+        }
+        i += 1;
+    }
+    false
+}
+
+// Whether two stamps of the table are equal.
+fn tied(table: &[u64]) -> bool {
+    let n = table.len() / Row::COLUMNS;
+    let mut i: usize = 0;
+    while i < n {
+        let o = Op::at(table, i);
+        if o.start == o.finish {
+            return true;
+        }
+        if has(table, i, o.start) {
+            return true;
+        }
+        if has(table, i, o.finish) {
+            return true;
+        }
+        i += 1;
+    }
+    false
+}
+
+// One more, where it is so.
+fn more(count: u64, so: bool) -> u64 {
+    if !so {
+        return count;
+    }
     if count < 18446744073709551615 {
         return count + 1;
     }
@@ -228,38 +271,20 @@ fn more(count: u64) -> u64 {
 
 struct Tally {
     histories: u64,
+    tied: u64,
     fresh: u64,
     stale: u64,
     differences: u64,
 }
 
 impl Tally {
-    fn differs(self, same: bool) -> Tally {
-        if same {
-            return self;
-        }
+    fn add(self, tied: bool, fresh: bool, same: bool) -> Tally {
         Tally {
-            histories: self.histories,
-            fresh: self.fresh,
-            stale: self.stale,
-            differences: more(self.differences),
-        }
-    }
-
-    fn add(self, fresh: bool) -> Tally {
-        if fresh {
-            return Tally {
-                histories: more(self.histories),
-                fresh: more(self.fresh),
-                stale: self.stale,
-                differences: self.differences,
-            };
-        }
-        Tally {
-            histories: more(self.histories),
-            fresh: self.fresh,
-            stale: more(self.stale),
-            differences: self.differences,
+            histories: more(self.histories, true),
+            tied: more(self.tied, tied),
+            fresh: more(self.fresh, fresh),
+            stale: more(self.stale, !fresh),
+            differences: more(self.differences, !same),
         }
     }
 }
@@ -273,7 +298,7 @@ fn tallied(tally: Tally, table: &[u64], question: u64, k: u64) -> Tally
     let fresh = trial(table, k, &mut orders[..n]);
     let mut list = [0u64; ROWS];
     let same = agrees(table, question, k, fresh, &mut list[..n]);
-    tally.add(fresh).differs(same)
+    tally.add(tied(table), fresh, same)
 }
 
 // One history more, made in the whole table; one that the screening refuses is passed over.
@@ -301,6 +326,7 @@ fn turn(tally: Tally, number: u64, question: u64, k: u64) -> Tally
 fn compared(question: u64, k: u64) -> Tally {
     let mut tally = Tally {
         histories: 0,
+        tied: 0,
         fresh: 0,
         stale: 0,
         differences: 0,
@@ -321,6 +347,7 @@ fn field(name: &[u8], n: u64) {
 fn show(question: u64, tally: Tally) {
     field(b"question ", question);
     field(b": histories ", tally.histories);
+    field(b", with equal stamps ", tally.tied);
     field(b", fresh ", tally.fresh);
     field(b", stale ", tally.stale);
     field(b", differences ", tally.differences);

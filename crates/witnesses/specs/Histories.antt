@@ -1,6 +1,6 @@
 -- What the methods are given: the facts of a prepared history, and all that their proofs rely on (000, section II.C; document 01, "Doubled stamps").
 -- Assumes nothing.
-use Prim.Native.Nat.{_<_}
+use Prim.Native.Nat.{_≤_, _<_}
 use mathlib.Core.Path.{_≡_}
 use mathlib.Core.Logic.{_≢_}
 use mathlib.Core.Bool.{true, false}
@@ -28,7 +28,7 @@ Apart a b = a .row ≢ b .row
 -- A history (000, section II.A): operations of different rows that have a span, one write a value, and with each read its write.
 pub record Proper (H : List Op) : Type 0 where
   pub rows : Pairs Apart H
-  pub span : (x : Op) → In x H → x .start < x .finish
+  pub span : (x : Op) → In x H → x .start ≤ x .finish
   pub one : (x y : Op) → Write H x → Write H y → x .value ≡ y .value → x ≡ y
   pub dict : (r : Op) → In r H → isWrite r ≡ false → (w : Op) × Reads H w r
 

@@ -1,6 +1,7 @@
 //! The entry for a C host on random files, sound ones and damaged ones. The plain side is held to the order check, and for small registers to a
 //! trial of all orders.
 
+use std::collections::HashSet;
 use std::process::exit;
 
 use compare::codes::{FRESH, STALE};
@@ -12,7 +13,7 @@ use compare::{histories, library, marking, order, shapes, Marking};
 use crate::tally::Tally;
 
 /// The codes that a call on a file's bytes can give.
-const CODES: [u64; 11] = [0, 2, 3, 5, 6, 7, 8, 9, 12, 16, 17];
+const CODES: [u64; 10] = [0, 2, 3, 5, 7, 8, 9, 12, 16, 17];
 /// The largest register whose orders are all tried.
 const SMALL: usize = 6;
 
@@ -25,6 +26,34 @@ pub struct Counts {
     /// the orders checked, and the marks held to all orders
     orders: u64,
     tried: u64,
+    ties: Ties,
+}
+
+/// The marks of registers with equal stamps, and by which stamps these are.
+#[derive(Default)]
+struct Ties {
+    marks: u64,
+    starts: u64,
+    finishes: u64,
+    touching: u64,
+    no_length: u64,
+}
+
+impl Ties {
+    fn add(&mut self, rows: &[Row]) {
+        let [starts, finishes] = [|row: &Row| row.start, |row: &Row| row.finish].map(|stamp| rows.iter().map(stamp).collect::<HashSet<_>>());
+        let touching = |row: &Row| finishes.contains(&row.start) && row.start != row.finish;
+        let met = [
+            starts.len() < rows.len(),
+            finishes.len() < rows.len(),
+            rows.iter().any(touching),
+            rows.iter().any(|row| row.start == row.finish),
+        ];
+        self.marks += u64::from(met.contains(&true));
+        for (count, met) in [&mut self.starts, &mut self.finishes, &mut self.touching, &mut self.no_length].into_iter().zip(met) {
+            *count += u64::from(met);
+        }
+    }
 }
 
 /// A call on a file's bytes.
@@ -51,6 +80,7 @@ impl Call<'_> {
             return;
         }
         let rows = rows_of(self.bytes, self.register).expect("a marked register has a sound file");
+        counts.ties.add(&rows);
         let k = if self.question == 1 { 1 } else { 2 };
         if plain.code == FRESH {
             counts.orders += 1;
@@ -131,14 +161,19 @@ pub fn compare(calls: u64) -> Counts {
 }
 
 impl Counts {
-    /// Prints the entry's line; whether nothing differs and every code has come.
+    /// Prints the entry's line; whether nothing differs, every code has come, and most marks are of registers with equal stamps, of all kinds.
     pub fn sound(&self) -> bool {
-        self.tally.sound("valgrist_mark", &CODES)
+        let Ties { marks, starts, finishes, touching, no_length } = self.ties;
+        let marked = self.tally.came(FRESH) + self.tally.came(STALE);
+        let tied = 2 * marks > marked && [starts, finishes, touching, no_length].iter().all(|&count| 10 * count > marks);
+        self.tally.sound("valgrist_mark", &CODES) && tied
     }
 
     /// Prints what the entry's calls were made on, and what the plain side was held to.
     pub fn print(&self) {
         println!("valgrist_mark: {} files, of them damaged {}, of up to {} rows", self.files, self.damaged, self.largest);
         println!("plain side: orders accepted {}, marks held to all orders {}", self.orders, self.tried);
+        let Ties { marks, starts, finishes, touching, no_length } = self.ties;
+        println!("equal stamps: marks {marks}; two starts {starts}, two finishes {finishes}, a start and another row's finish {touching}, a row of no length {no_length}");
     }
 }

@@ -55,19 +55,19 @@ fn printed(text: String) -> Needed {
 
 pub const KINDS: [Kind; 20] = [
     kind!(
-        "marker::mark" gives &[0, 1, 2, 3, 4, 5, 6, 7, 8, 9, 10, 11, 12], from given::of_register, needs |g| Needed::Numbers(g.rows());
+        "marker::mark" gives &[0, 1, 2, 3, 4, 5, 7, 8, 9, 10, 11, 12], from given::of_register, needs |g| Needed::Numbers(g.rows());
         |g, lent| mark(&g.table, g.register, g.question, g.allowance, &mut lent.numbers)
     ),
     kind!(
-        "marks::answer" gives &[0, 1, 2, 3, 4, 5, 6, 7, 8, 9, 11, 12], from given::of_register, needs nothing;
+        "marks::answer" gives &[0, 1, 2, 3, 4, 5, 7, 8, 9, 11, 12], from given::of_register, needs nothing;
         |g, _lent| answer(&g.table, g.register, g.question, g.allowance)
     ),
     kind!(
-        "orders::check" gives &[0, 1, 2, 3, 4, 5, 6, 7, 8, 9, 13, 14, 15], from given::of_order, needs nothing;
+        "orders::check" gives &[0, 1, 2, 3, 4, 5, 7, 8, 9, 13, 14, 15], from given::of_order, needs nothing;
         |g, _lent| check(&g.table, g.register, g.k, &g.list)
     ),
     kind!(
-        "screening::screen" gives &[0, 1, 2, 4, 5, 6, 7, 8, 9], from given::of_register, needs nothing;
+        "screening::screen" gives &[0, 1, 2, 4, 5, 7, 8, 9], from given::of_register, needs nothing;
         |g, _lent| screen(&g.table, g.register)
     ),
     kind!(

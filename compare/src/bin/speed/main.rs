@@ -9,7 +9,8 @@ mod trials;
 use std::hint::black_box;
 use std::time::Duration;
 
-use compare::histories::{self, file, file_of, scramble, spread};
+use compare::file::Row;
+use compare::histories::{self, coarsen, file, file_of, scramble, spread};
 use compare::random::Random;
 use compare::{library, mark};
 
@@ -25,7 +26,7 @@ struct Case {
 
 type Maker = fn(usize, &mut Random) -> Case;
 
-fn one(rows: Vec<compare::file::Row>) -> Case {
+fn one(rows: Vec<Row>) -> Case {
     Case { bytes: file_of(1, &rows), registers: vec![1] }
 }
 
@@ -33,6 +34,17 @@ fn wild(count: usize, random: &mut Random) -> Case {
     let mut rows = histories::quorum(count, random);
     spread(&mut rows, random);
     scramble(&mut rows, random);
+    shuffled(rows, random)
+}
+
+/// A tenth of the stamps are distinct.
+fn ties(count: usize, random: &mut Random) -> Vec<Row> {
+    let mut rows = histories::quorum(count, random);
+    coarsen(&mut rows, 10);
+    rows
+}
+
+fn shuffled(mut rows: Vec<Row>, random: &mut Random) -> Case {
     random.shuffle(&mut rows);
     one(rows)
 }
@@ -47,7 +59,7 @@ fn sixty(count: usize, random: &mut Random) -> Case {
     Case { bytes: file(&rows), registers: (1..=60).collect() }
 }
 
-const FAMILIES: [(&str, Maker); 11] = [
+const FAMILIES: [(&str, Maker); 13] = [
     ("1 quorum-like", |count, random| one(histories::quorum(count, random))),
     ("2 all concurrent", |count, random| one(histories::concurrent(count, random))),
     (trials::FAIL_LATE, |count, random| one(histories::late_failures(count, random))),
@@ -59,6 +71,8 @@ const FAMILIES: [(&str, Maker); 11] = [
     ("5b stale at the start", |count, random| one(histories::stale_at(false, count, random))),
     ("6 sixty registers, all", sixty),
     ("7 as 1, wild", wild),
+    ("8a as 1, equal stamps", |count, random| one(ties(count, random))),
+    ("8b the same, shuffled", |count, random| shuffled(ties(count, random), random)),
 ];
 
 type Mark = fn(&[u8], u64, u64) -> u64;
@@ -86,8 +100,8 @@ fn main() {
             let mut found = Vec::new();
             for (case, size) in cases.iter().zip(SIZES) {
                 for &register in &case.registers {
-                    let codes = MARKS.map(|call| call(&case.bytes, register, question));
-                    differences += u64::from(codes.iter().any(|&code| code != codes[0]));
+                    let codes = [library::mark, mark].map(|call: Mark| call(&case.bytes, register, question));
+                    differences += u64::from(codes[0] != codes[1]);
                 }
                 let turns = MARKS.map(|call| move || turn(call, case, question));
                 let times = best(turns.each_ref().map(|turn| turn as Turn), least);

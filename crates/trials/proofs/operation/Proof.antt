@@ -32,14 +32,11 @@ pick-requires c κs = search needs
 sub-start : tie.Need-sub-start
 sub-start c = omega arith
 
-add-finish : tie.Need-add-finish
-add-finish c = omega arith
-
 pick-requires-2 : tie.Need-pick-requires-2
 pick-requires-2 c κs = search needs
 
-add-finish-2 : tie.Need-add-finish-2
-add-finish-2 c = omega arith
+add-finish : tie.Need-add-finish
+add-finish c = omega arith
 
 mul-base : tie.Need-mul-base
 mul-base c = omega arith
@@ -71,41 +68,20 @@ mul-table-3 c = omega arith
 slice-write-table-3 : tie.Need-slice-write-table-3
 slice-write-table-3 c = simp length-set (omega arith)
 
-mul-table-4 : tie.Need-mul-table-4
-mul-table-4 c = omega arith
-
-mul-table-5 : tie.Need-mul-table-5
-mul-table-5 c = omega arith
-
 add-table-4 : tie.Need-add-table-4
 add-table-4 c = omega arith
 
-add-table-5 : tie.Need-add-table-5
-add-table-5 c = omega arith
-
-mul-table-6 : tie.Need-mul-table-6
-mul-table-6 c = omega arith
+mul-table-4 : tie.Need-mul-table-4
+mul-table-4 c = omega arith
 
 slice-write-table-4 : tie.Need-slice-write-table-4
 slice-write-table-4 c = simp length-set (omega arith)
 
-mul-table-7 : tie.Need-mul-table-7
-mul-table-7 c = omega arith
+add-table-5 : tie.Need-add-table-5
+add-table-5 c = omega arith
 
-mul-table-8 : tie.Need-mul-table-8
-mul-table-8 c = omega arith
-
-add-table-6 : tie.Need-add-table-6
-add-table-6 c = omega arith
-
-add-table-7 : tie.Need-add-table-7
-add-table-7 c = omega arith
-
-add-table-8 : tie.Need-add-table-8
-add-table-8 c = omega arith
-
-mul-table-9 : tie.Need-mul-table-9
-mul-table-9 c = omega arith
+mul-table-5 : tie.Need-mul-table-5
+mul-table-5 c = omega arith
 
 slice-write-table-5 : tie.Need-slice-write-table-5
 slice-write-table-5 c = simp length-set (omega arith)
@@ -132,9 +108,8 @@ operation-spec =
     add-at
     pick-requires
     sub-start
-    add-finish
     pick-requires-2
-    add-finish-2
+    add-finish
     mul-base
     add-table
     mul-table
@@ -145,18 +120,11 @@ operation-spec =
     add-table-3
     mul-table-3
     slice-write-table-3
-    mul-table-4
-    mul-table-5
     add-table-4
-    add-table-5
-    mul-table-6
+    mul-table-4
     slice-write-table-4
-    mul-table-7
-    mul-table-8
-    add-table-6
-    add-table-7
-    add-table-8
-    mul-table-9
+    add-table-5
+    mul-table-5
     slice-write-table-5
     next-requires-4
     same-length

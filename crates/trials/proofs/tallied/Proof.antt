@@ -24,11 +24,11 @@ slice-aggregate-agrees c = sym (length-take-le _ _ (omega arith))
 agrees-requires : tie.Need-agrees-requires
 agrees-requires c κs = search needs
 
+tied-requires : tie.Need-tied-requires
+tied-requires c κs = search needs
+
 add-requires : tie.Need-add-requires
 add-requires c κs = search needs
-
-differs-requires : tie.Need-differs-requires
-differs-requires c κs = search needs
 
 returns : tie.Need-returns
 returns c = search needs
@@ -43,6 +43,6 @@ tallied-spec =
     array-borrow-prefix-list
     slice-aggregate-agrees
     agrees-requires
+    tied-requires
     add-requires
-    differs-requires
     returns)

@@ -1,0 +1,2 @@
+-- What the ranks of some rows are.
+pub mod Ranked

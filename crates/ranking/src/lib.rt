@@ -1,0 +1,113 @@
+// The doubled ranks of a register's stamps, from its rows by rising start: the finishes are sorted, and merged with the starts.
+use history::Op;
+ghost use mathlib.Core.Path.{_≡_};
+ghost use Prim.Native.Nat.{_*_, _≤_, _<_};
+ghost use lib.ListN.{length, getD};
+ghost use Rattle.lists.specs.Lists.{upTo};
+ghost use Rattle.lists.specs.Pairs.{Pairs};
+ghost use Rattle.lists.specs.Sorts.{sort};
+ghost use Rattle.history.specs.Table.{largestCount};
+ghost use Rattle.ranking.specs.Ranked.{Fit, Standing, Stamps, finishesFirst, Run, Ready, comesFirst, Merged, RanksOf};
+
+// The starts and the finishes of the rows.
+fn stamps_of(table: &[u64], rows: &[u64], starts: &mut [u64], finishes: &mut [u64])
+    requires { ⌜ Fit (now table) (now rows) ⌝ }
+    requires { ⌜ (length (now starts) ≡ length (now rows)) × (length (now finishes) ≡ length (now rows)) ⌝ }
+    ensures { λ _. ⌜ Stamps (now (table .entry)) (now (rows .entry)) (now (starts .exit)) (now (finishes .exit)) ⌝ }
+{
+    let mut i: usize = 0;
+    while i < rows.len() {
+        let o = Op::at(table, rows[i] as usize);
+        starts[i] = o.start;
+        finishes[i] = o.finish;
+        i += 1;
+    }
+}
+
+// Where the positions that have one finish end, from a place of the list on.
+fn run_end(finishes: &[u64], list: &[u64], from: usize) -> usize
+    requires { ⌜ from < length (now list) ⌝ }
+    ensures { λ r. ⌜ Run (now (finishes .entry)) (now (list .entry)) from r ⌝ }
+{
+    let finish = sorting::key(finishes, list[from]);
+    let mut end = from + 1;
+    while end < list.len() {
+        if sorting::key(finishes, list[end]) != finish {
+            return end;
+        }
+        end += 1;
+    }
+    end
+}
+
+// Puts positions by rising finish into the sequence of their ranks: those that have one finish by row.
+fn part(rows: &[u64], finishes: &[u64], list: &mut [u64])
+    requires { ⌜ Pairs (λ a b. getD (now finishes) a 0 ≤ getD (now finishes) b 0) (now list) ⌝ }
+    ensures { λ _. ⌜ now (list .exit) ≡ sort (finishesFirst (now (rows .entry)) (now (finishes .entry))) (now (list .entry)) ⌝ }
+{
+    let mut at: usize = 0;
+    while at < list.len() {
+        let end = run_end(finishes, list, at);
+        sorting::sort_by(rows, &mut list[at..end]);
+        at = end;
+    }
+}
+
+// The positions by rising finish; those that have one finish by row.
+fn by_finish(rows: &[u64], finishes: &[u64], list: &mut [u64])
+    ensures { λ _. ⌜ now (list .exit) ≡ sort (finishesFirst (now (rows .entry)) (now (finishes .entry))) (upTo (length (now (list .entry)))) ⌝ }
+{
+    sorting::places_by(finishes, list);
+    part(rows, finishes, list);
+}
+
+// Whether there is a start at i, not above the finish: at an equal stamp starts come before finishes.
+fn comes_first(starts: &[u64], i: usize, finish: u64) -> bool
+    ensures { λ r. ⌜ r ≡ comesFirst (now (starts .entry)) i finish ⌝ }
+{
+    if i < starts.len() {
+        return starts[i] <= finish;
+    }
+    false
+}
+
+fn doubled(rank: usize) -> u64
+    requires { ⌜ rank < 2 * largestCount ⌝ }
+    ensures { λ r. ⌜ r ≡ 2 * rank ⌝ }
+{
+    2 * (rank as u64)
+}
+
+// Puts twice its rank in the place of each start and of each finish, with the positions by rising finish.
+fn merge(list: &[u64], start: &mut [u64], finish: &mut [u64])
+    requires { ⌜ Ready (now start) (now finish) (now list) ⌝ }
+    requires { ⌜ length (now list) ≤ largestCount ⌝ }
+    ensures { λ _. ⌜ Merged (now (start .entry)) (now (finish .entry)) (now (list .entry)) (now (start .exit)) (now (finish .exit)) ⌝ }
+{
+    let mut i: usize = 0;
+    let mut j: usize = 0;
+    while j < list.len() {
+        let at = list[j] as usize;
+        if comes_first(start, i, finish[at]) {
+            start[i] = doubled(i + j);
+            i += 1;
+        } else {
+            finish[at] = doubled(i + j);
+            j += 1;
+        }
+    }
+}
+
+// The doubled ranks of the starts and of the finishes of a register's rows, which stand by rising start; the list has a place for each row.
+pub fn ranks(table: &[u64], rows: &[u64], list: &mut [u64], start: &mut [u64], finish: &mut [u64])
+    requires { ⌜ Fit (now table) (now rows) ⌝ }
+    requires { ⌜ length (now rows) ≤ largestCount ⌝ }
+    requires { ⌜ length (now list) ≡ length (now rows) ⌝ }
+    requires { ⌜ (length (now start) ≡ length (now rows)) × (length (now finish) ≡ length (now rows)) ⌝ }
+    requires { ⌜ Standing (now table) (now rows) ⌝ }
+    ensures { λ _. ⌜ RanksOf (now (table .entry)) (now (rows .entry)) (now (start .exit)) (now (finish .exit)) ⌝ }
+{
+    stamps_of(table, rows, start, finish);
+    by_finish(rows, finish, list);
+    merge(list, start, finish);
+}

@@ -1,0 +1,58 @@
+-- Nothing is said of the result.
+use Prim.Native.Nat.{_≤_, _-_}
+use native.Mathlib.Omega.{arith}
+use Rattle.trials.proofs.has.Statement.{statement}
+use Rattle.trials.proofs.has.Tie as tie
+
+abbrev Inv-loop : tie.InvT-loop
+Inv-loop table rows stamp i₀ i = i ≤ rows
+
+abbrev μ-loop : tie.MeasureT-loop
+μ-loop table rows stamp i₀ i = rows - i
+
+-- src/main.rt:227:5
+loop-holds : tie.Need-loop-holds Inv-loop μ-loop
+loop-holds c = omega arith
+
+-- src/main.rt:228:13
+at-requires : tie.Need-at-requires Inv-loop μ-loop
+at-requires c κs = omega arith
+
+-- src/main.rt:230:13
+returns : tie.Need-returns Inv-loop μ-loop
+returns c = omega arith
+
+-- src/main.rt:233:13
+returns-2 : tie.Need-returns-2 Inv-loop μ-loop
+returns-2 c = omega arith
+
+-- src/main.rt:235:9
+add-i : tie.Need-add-i Inv-loop μ-loop
+add-i c = omega arith
+
+-- src/main.rt:227:5
+loop-less : tie.Need-loop-less Inv-loop μ-loop
+loop-less c = omega arith
+
+-- src/main.rt:227:5
+loop-again : tie.Need-loop-again Inv-loop μ-loop
+loop-again c = omega arith
+
+-- src/main.rt:223:1
+returns-3 : tie.Need-returns-3 Inv-loop μ-loop
+returns-3 c = omega arith
+
+pub has-spec : {M : Type 1} → statement M
+has-spec =
+    tie.close
+    (tie.spec
+    Inv-loop
+    μ-loop
+    loop-holds
+    at-requires
+    returns
+    returns-2
+    add-i
+    loop-less
+    loop-again
+    returns-3)
