@@ -1,4 +1,4 @@
-//! Histories: random ones of many shapes, and the families of the benchmark. Stamps are made as ranks, 1 and up, and spread afterwards.
+//! Histories: random ones of many shapes, and the families of the benchmark. Stamps are made as ranks, 1 and up, and spread or coarsened afterwards.
 
 use crate::file::{push_record, Row};
 use crate::random::Random;
@@ -212,7 +212,7 @@ pub fn stale_at(end: bool, count: usize, random: &mut Random) -> Vec<Row> {
     rows
 }
 
-/// Ranks as a clock with longer ticks would give them: 1 and up, many of them equal.
+/// The stamps that a clock with longer ticks would give for these ranks: 1 and up, many of them equal.
 pub fn coarsen(rows: &mut [Row], tick: u64) {
     for row in rows {
         row.start = 1 + (row.start - 1) / tick;

@@ -4,7 +4,7 @@ use Prim.Native.Nat.{ℕ, _≤_, _<_}
 use mathlib.Core.Path.{_≡_, refl, sym, ap, _∙_}
 use mathlib.Core.Logic.{_⊎_, inl, inr}
 use mathlib.Core.Bool.{true, false}
-use mathlib.Core.List.{List, [], _∷_, map, List·Memᴰ as In}
+use mathlib.Core.List.{List, map, List·Memᴰ as In}
 use native.Mathlib.Omega.{arith}
 use lib.ListN.{length, getD, length-map}
 use Rattle.lists.specs.Sorts.{sort}
@@ -20,7 +20,7 @@ use Rattle.methods.specs.Prepared.{startsFirst, byStart}
 use Rattle.methods.specs.Mark.{rowNumbers}
 use Rattle.witnesses.specs.Histories.{Apart, Proper}
 use Rattle.preparation.proofs.Timed.{screened-proper, from-sorted, into-sorted}
-use Rattle.preparation.proofs.Rows.{history-rows}
+use Rattle.preparation.proofs.Rows.{rows-back, history-rows}
 use Rattle.positions.proofs.Places.{below}
 use Rattle.positions.specs.Columns.{nothing, op}
 use Rattle.ranking.specs.Ranked.{Fit, Stands}
@@ -36,12 +36,6 @@ sortedRows t register = sort (λ x y. startsFirst (opAt t x) (opAt t y)) (rowsOf
 pub sorted-is : (t : List ℕ) (register : ℕ) → sortedRows t register ≡ sort (λ x y. startsFirst (opAt t x) (opAt t y)) (rowsOf t register)
 unfolding sortedRows
 sorted-is t register = refl
-
--- an operation has the number of its row
-rows-back : (t : List ℕ) (l : List ℕ) → rowNumbers (map (opAt t) l) ≡ l
-unfolding opAt
-rows-back t [] = refl
-rows-back t (x ∷ l) = ap (λ (z : List ℕ). x ∷ z) (rows-back t l)
 
 module _ (t : List ℕ) (register : ℕ) where
   sorted-ops : byStart (history t register) ≡ map (opAt t) (sortedRows t register)
@@ -77,7 +71,7 @@ module _ {t : List ℕ} {register : ℕ} {rows : List ℕ} (g : Listed t registe
   listed-fit =
       record {
         inside = λ x m. omega (arith, in-rows t register (in-sorted t register (rw rows-are at m)) .exists);
-        spans = λ x m. g .screened .spans (opAt t x) (in-history m);
+        spans = λ x m. g .screened .spans (opAt t x) (in-history m) .0;
       }
 
   pub listed-few : length rows ≤ largestCount

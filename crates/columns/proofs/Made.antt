@@ -14,7 +14,7 @@ use Rattle.methods.specs.Mark.{rowNumbers}
 use Rattle.preparation.proofs.Ranks.{meets-ranked}
 use Rattle.preparation.proofs.Sequence.{ranked-sorted}
 use Rattle.preparation.proofs.Shorten.{prepared-history}
-use Rattle.ranking.specs.Ranked.{Stands, Ranked}
+use Rattle.ranking.specs.Ranked.{Ranked, RanksOf}
 use Rattle.preparation.proofs.Rows.{history-rows}
 use Rattle.positions.specs.Columns.{cols, Linked, nothing, op, Of}
 use Rattle.columns.specs.Rows.{Listed}
@@ -111,11 +111,11 @@ module _ {t : List ℕ} {register : ℕ} {rows : List ℕ} (g : Listed t registe
 
 -- what the doubled ranks are shortened from
 pub shorten-asks : {t : List ℕ} {register : ℕ} {rows : List ℕ} → Listed t register rows → (start finish writer : List ℕ)
-    → ((h : List Op) → Stands t rows h → Ranked t rows h start finish) → writer ≡ map (writerOf t rows) rows → (o : List Op) × Whole o writer finish
+    → RanksOf t rows start finish → writer ≡ map (writerOf t rows) rows → (o : List Op) × Whole o writer finish
 shorten-asks {t} {register} {rows} g start finish writer r e = (map (byRow g) rows, made-whole g writer e start finish (r (history t register) (listed-stands g)))
 
 -- THE COLUMNS ARE MADE, from what each call leaves
-pub made : (t rows start ends finish writer last prev : List ℕ) → ((h : List Op) → Stands t rows h → Ranked t rows h start ends)
+pub made : (t rows start ends finish writer last prev : List ℕ) → RanksOf t rows start ends
     → ((o : List Op) → Whole o writer ends → finish ≡ map (newFinish o) o)
     → writer ≡ map (writerOf t rows) rows → Linked writer last prev → Made t rows (cols start finish writer last prev)
 made t rows start ends finish writer last prev r b e k =

@@ -123,7 +123,7 @@ fn link(writer: &[u64], last: &mut [u64], prev: &mut [u64])
     }
 }
 
-// The columns of a screened register's rows, which stand by rising start.
+// The columns of a screened register's rows, which stand by rising start. The chains are made last, so their slice is lent for the ranks first.
 pub fn fill(
     table: &[u64],
     rows: &[u64],

@@ -66,6 +66,10 @@ pub record Quiet (t rows writer : List ℕ) (i : ℕ) : Type 0 where
   pub orphan : shows Orphan t rows writer i ≡ false
   pub early : shows Early t rows writer i ≡ false
 
+-- none of the rows does
+abbrev pub AllQuiet : List ℕ → List ℕ → List ℕ → Type 0
+AllQuiet t rows writer = (i : ℕ) → i < length rows → Quiet t rows writer i
+
 -- rows of the table, rising, no more than a table has
 pub record Listed (t rows : List ℕ) : Type 0 where
   pub within : Within t rows

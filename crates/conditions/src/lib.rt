@@ -5,7 +5,7 @@ use history::Row;
 use lists::Found;
 ghost use mathlib.Core.Path.{_≡_};
 ghost use mathlib.Core.Bool.{true, _&&_};
-ghost use Prim.Native.Nat.{ℕ, _<_};
+ghost use Prim.Native.Nat.{_<_};
 ghost use mathlib.Core.List.{map};
 ghost use lib.Dec.{ltb, leb};
 ghost use lib.ListN.{length, getD};
@@ -14,7 +14,7 @@ ghost use Rattle.history.specs.Answer.{number, firstMet, passed};
 ghost use Rattle.history.specs.Screen.{wrongKind, wrongSpan};
 ghost use Rattle.history.proofs.Refusals.{orTest};
 ghost use Rattle.writers.specs.Writers.{Within, writerOf, rowOp};
-ghost use Rattle.conditions.specs.Tests.{codeOf, rowTests, shows, lowestAt, shownTest, Quiet, Listed};
+ghost use Rattle.conditions.specs.Tests.{codeOf, rowTests, shows, lowestAt, shownTest, Quiet, AllQuiet, Listed};
 
 // The tests that look at each row of the register, in their sequence.
 enum RowTest {
@@ -168,7 +168,7 @@ fn quiet(table: &[u64], rows: &[u64], writer: &[u64], i: usize) -> bool
 // Whether no row meets a condition of tests 4 to 9: one pass for a register that passes.
 fn all_quiet(table: &[u64], rows: &[u64], writer: &[u64]) -> bool
     requires { ⌜ Listed (now table) (now rows) ⌝ }
-    ensures { λ r. ⌜ (r ≡ true → ((i : ℕ) → i < length (now (rows .entry)) → Quiet (now (table .entry)) (now (rows .entry)) (now (writer .entry)) i)) ⌝ }
+    ensures { λ r. ⌜ (r ≡ true → AllQuiet (now (table .entry)) (now (rows .entry)) (now (writer .entry))) ⌝ }
 {
     let mut i: usize = 0;
     while i < rows.len() {

@@ -33,7 +33,7 @@ pub data Code : Type 0 where
   header-fault : Code  -- the offset 0 (02, W-201)
   unreadable-cell : Code  -- the offset of the cell, or of its line (02, W-201)
 
--- their numbers (01's table, and 02); 6 is no longer given (02, W-203)
+-- their numbers (01's table, and 02); there is no 6 (02, W-203)
 abbrev pub number : Code → ℕ
 number fresh = 0
 number ragged = 1

@@ -13,7 +13,7 @@ use Rattle.history.specs.declared.Answer.{Answer}
 use Rattle.history.specs.Table.{largestCount, largestStamp, history, isWrite, isRead, precedes, Precedes, dictates, Dictates}
 use Rattle.history.specs.Answer.{ragged, overfull, no-such-question, bad-kind, bad-span, twin-write, orphan-read, early-read, Test, test, ifSo, lowestRow, firstMet, passed}
 
--- The conditions on an operation o of a register's history h (01's table, codes 4, 5 and 7 to 9; 02, W-203: 6 is no longer given).
+-- The conditions on an operation o of a register's history h (01's table, codes 4, 5 and 7 to 9; there is no 6, by 02, W-203).
 
 -- 4: kind not 1 or 2
 unfoldable pub wrongKind : Op → Bool

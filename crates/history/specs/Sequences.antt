@@ -3,15 +3,15 @@
 use mathlib.Core.List.{List, [], _∷_, _++_}
 use Rattle.history.specs.Answer.{Code, ragged, overfull, no-such-question, bad-kind, bad-span, twin-write, orphan-read, early-read, short-list, misfit-list, out-of-time, too-far-behind}
 
--- tests 1 to 9; 6 is no longer one (02, W-203)
-abbrev pub screenSequence : List Code
-screenSequence =
+-- tests 1 to 9, which marking and the order check share; there is no 6 (02, W-203)
+abbrev pub commonSequence : List Code
+commonSequence =
     ragged ∷ overfull ∷ no-such-question ∷ bad-kind ∷ bad-span ∷ twin-write ∷ orphan-read ∷ early-read ∷ []
 
 -- marking: tests 1 to 10
 abbrev pub markSequence : List Code
-markSequence = screenSequence ++ short-list ∷ []
+markSequence = commonSequence ++ short-list ∷ []
 
 -- the order check: tests 1 to 9, then 13 for a misfit and 13 for missing rows, 14, 15
 abbrev pub checkSequence : List Code
-checkSequence = screenSequence ++ misfit-list ∷ misfit-list ∷ out-of-time ∷ too-far-behind ∷ []
+checkSequence = commonSequence ++ misfit-list ∷ misfit-list ∷ out-of-time ∷ too-far-behind ∷ []

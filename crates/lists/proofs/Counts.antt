@@ -3,7 +3,7 @@
 use Prim.Native.Nat.{suc, _≤_, _<_}
 use mathlib.Core.Path.{_≡_, refl, ap, _∙_}
 use mathlib.Core.Bool.{Bool, true, false, cond}
-use mathlib.Core.List.{List, [], _∷_, List·Memᴰ as In, List·Memᴰ·head as here, List·Memᴰ·tail as there}
+use mathlib.Core.List.{List, [], _∷_, map, List·Memᴰ as In, List·Memᴰ·head as here, List·Memᴰ·tail as there}
 use native.Mathlib.Omega.{arith}
 use lib.ListN.{length}
 use Rattle.lists.specs.Lists.{put, keep}
@@ -62,6 +62,16 @@ module _ {A : Type 0} where
   pub keep-more : (p q : A → Bool) (l : List A) → ((x : A) → p x ≡ true → q x ≡ true) → {y : A} → In y l → p y ≡ false → q y ≡ true
       → length (keep p l) < length (keep q l)
   keep-more p q l h m n s = rw (keep-all q (keep p l) (λ x k. h x (in-keep p l k .1))) at (keep-lt q p l m s n)
+
+  -- an image has as many elements that pass
+  pub count-map : {B : Type 0} (f : A → B) (p : B → Bool) (l : List A) → length (keep p (map f l)) ≡ length (keep (λ x. p (f x)) l)
+  unfolding keep put
+  count-map f p [] = refl
+  count-map f p (x ∷ l) = go (p (f x)) (count-map f p l)
+    where
+      go : (b : Bool) → length (keep p (map f l)) ≡ length (keep (λ y. p (f y)) l) → length (put b (f x) (keep p (map f l))) ≡ length (put b x (keep (λ y. p (f y)) l))
+      go true h = ap suc h
+      go false h = h
 
   -- a sorted list has as many elements that pass
   module _ (le : A → A → Bool) (p : A → Bool) where

@@ -1,6 +1,6 @@
 -- The method of each question decides the prepared history of a screened register, and so the register as it is, in a bounded number of trials.
 -- Assumes nothing.
-use Prim.Native.Nat.{ℕ, _+_, _*_, _-_, _/_, _≤_, _<_}
+use Prim.Native.Nat.{ℕ, _*_, _-_, _≤_}
 use mathlib.Core.Path.{_≡_, refl}
 use mathlib.Core.Logic.{_⊎_, inl, inr}
 use mathlib.Core.Bool.{Bool, true, false, cond}
@@ -8,13 +8,12 @@ use mathlib.Core.List.{List}
 use native.Mathlib.Omega.{arith}
 use lib.Dec.{eqb}
 use borrow.Author.Tests.{eqb-true}
-use Rattle.lists.specs.Pairs.{Pairs}
 use Rattle.history.specs.declared.Op.{Op}
 use Rattle.history.specs.Screen.{Screened}
 use Rattle.methods.specs.Prepared.{prepared}
 use Rattle.methods.specs.Place.{writeCount}
 use Rattle.methods.specs.Zones.{Decision, none, order, zones}
-use Rattle.methods.specs.Lbt.{trials, decided, lbt}
+use Rattle.methods.specs.Lbt.{trials, lbt}
 use Rattle.methods.specs.Fzf.{fzf}
 use Rattle.methods.specs.Mark.{kOf, untried, walked, method, rowNumbers}
 use Rattle.witnesses.specs.Histories.{Prepared}
@@ -24,7 +23,8 @@ use Rattle.clusters.proofs.One.{zones-decides}
 use Rattle.viability.proofs.Two.{fzf-decides}
 use Rattle.walks.proofs.Decides.{lbt-decides, few-trials, within-half}
 use Rattle.meaning.specs.Marked.{Enough, trialsOf}
-use Rattle.preparation.proofs.Counts.{count-prepared}
+use Rattle.preparation.specs.Claims.{RowsRise}
+use Rattle.preparation.proofs.Counts.{keeps-writes}
 use Rattle.preparation.proofs.Shorten.{prepared-history, keeps-orders}
 
 -- Zones, LBT and FZF, by their question.
@@ -39,7 +39,7 @@ pub data Settles (k : ℕ) (h : List Op) : Decision → Type 0 where
   settles-none : ((o : List Op) → Orders k h o → ⊥) → Settles k h none
   settles-order : {p o : List Op} → rowNumbers p ≡ rowNumbers o → Orders k h o → Settles k h (order p)
 
-module _ {size : ℕ} {h : List Op} (s : Screened size h) (a : Pairs (λ x y. x .row < y .row) h) (question : ℕ) where
+module _ {size : ℕ} {h : List Op} (s : Screened size h) (a : RowsRise h) (question : ℕ) where
   pub method-settles : (question ≡ 1) ⊎ (question ≡ 2) ⊎ (question ≡ 3) → Settles (kOf question) h (method question (prepared h) .decision)
   method-settles asked = go _ (method-decides question (prepared h) asked (prepared-history s a))
     where
@@ -56,7 +56,7 @@ module _ {size : ℕ} {h : List Op} (s : Screened size h) (a : Pairs (λ x y. x 
     where
       go : (b c : Bool) → cond b (untried (zones (prepared h))) (cond c (walked (lbt (prepared h))) (untried (fzf (prepared h)))) .trials ≤ 2 * writeCount h - 1
       go true c = omega arith
-      go false true = omega (arith, few-trials (prepared-history s a), count-prepared h)
+      go false true = omega (arith, few-trials (prepared-history s a), keeps-writes h)
       go false false = omega arith
 
   pub enough : {allowance : ℕ} → Enough h question allowance → trialsOf h question ≤ allowance
@@ -65,5 +65,5 @@ module _ {size : ℕ} {h : List Op} (s : Screened size h) (a : Pairs (λ x y. x 
     where
       go : (b c : Bool) → eqb question 2 ≡ c → cond b (untried (zones (prepared h))) (cond c (walked (lbt (prepared h))) (untried (fzf (prepared h)))) .trials ≤ allowance
       go true c e = omega arith
-      go false true e = omega (arith, few-trials (prepared-history s a), count-prepared h, within-half (writeCount h), f (eqb-true question 2 e))
+      go false true e = omega (arith, few-trials (prepared-history s a), keeps-writes h, within-half (writeCount h), f (eqb-true question 2 e))
       go false false e = omega arith

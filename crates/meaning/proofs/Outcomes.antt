@@ -11,7 +11,6 @@ use lib.ListN.{length}
 use borrow.Author.Tests.{ltb-true, ltb-false, lt-ltb, le-ltb, eqb-true, eqb-false, not-false}
 use Rattle.lists.specs.declared.Found.{Found}
 use Rattle.lists.specs.declared.Found.the-variants.{At, Nothing}
-use Rattle.lists.specs.Pairs.{Pairs}
 use Rattle.lists.proofs.Tests.{Told, told-true, true-told, told-as, told-or, told-eqb}
 use Rattle.history.specs.declared.Op.{Op}
 use Rattle.history.specs.declared.Answer.{Answer}
@@ -22,6 +21,7 @@ use Rattle.history.proofs.Screened.{no-fault-asked, no-fault-screened, screened
 use Rattle.methods.specs.Prepared.{prepared}
 use Rattle.methods.specs.Zones.{Decision, none, order}
 use Rattle.methods.specs.Mark.{Outcome, noQuestion, kOf, Result, method, answered, marked, judged, markTests, markOf}
+use Rattle.preparation.specs.Claims.{RowsRise}
 use Rattle.meaning.specs.Marked.{Passes, trialsOf, Marked, is-refused, is-spent, is-stale, is-fresh}
 use Rattle.meaning.proofs.Methods.{Settles, settles-none, settles-order, method-settles}
 
@@ -92,7 +92,7 @@ module _ (size : ℕ) (h : List Op) (question : ℕ) (list : List ℕ) where
   met-passes e = passes (code-no-fault (markTests size h question list) mark-coded (passed (length h)) e)
 
   -- what the method gives, by cases
-  module _ (a : Pairs (λ x y. x .row < y .row) h) (allowance : ℕ) where
+  module _ (a : RowsRise h) (allowance : ℕ) where
     abbrev Mine : Outcome → Type 0
     Mine out = Marked size h question allowance list out
 

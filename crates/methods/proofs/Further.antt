@@ -9,7 +9,7 @@ use Rattle.methods.proofs.Cases.{C2, C3, C4, C5, C7}
 
 -- A row of another register, with a bad kind and a bad span: in front of a history it makes row numbers differ from positions.
 abbrev stranger : List ℕ
-stranger = 8 ∷ 3 ∷ 0 ∷ 9 ∷ 9 ∷ []
+stranger = 8 ∷ 3 ∷ 0 ∷ 9 ∷ 8 ∷ []
 
 -- Shortening.
 
@@ -91,11 +91,12 @@ reachesAround = W a 5 6 ++ W b 1 20
 
 -- Ties (document 02, W-203).
 
--- Operations that touch are concurrent, whatever their rows: the write of b may stand before that of a.
+-- Operations that touch are concurrent, whatever their rows: the write of b may stand before that of a. With finishes before starts, or with ranks
+-- of starts and of finishes apart, question 1 would call the register stale; with touching operations in precedence the check would give 14.
 abbrev touching : List ℕ
 touching = W a 1 2 ++ W b 2 3 ++ R a 3 4
 
--- Of two that start and finish together, the one of the lower row comes first.
+-- Of two that start and finish together, the one of the lower row comes first; with the higher row first the two would be interchanged.
 abbrev together : List ℕ
 together = W b 1 5 ++ W a 1 5
 
@@ -107,9 +108,9 @@ instants = R a 5 5 ++ W a 5 5 ++ W b 5 5 ++ R b 5 5
 abbrev equalStarts : List ℕ
 equalStarts = R a 3 5 ++ R a 3 4 ++ W a 1 2 ++ R a 3 4
 
--- A read that finishes with its write shortens it where its row is the lower one.
+-- A read that finishes with its write shortens it where its row is the lower one: then the write of b finishes last, and LBT tries it first.
 abbrev shortensLower : List ℕ
-shortensLower = R a 2 4 ++ W a 1 4 ++ W b 3 4
+shortensLower = R a 2 4 ++ W b 3 4 ++ W a 1 4
 
 abbrev shortensNot : List ℕ
 shortensNot = W b 3 4 ++ W a 1 4 ++ R a 2 4
@@ -201,7 +202,7 @@ further =
     ∷ case (marks together 2 9 lent) (gives 0 0 2 2 (0 ∷ 1 ∷ 92 ∷ 93 ∷ 94 ∷ 95 ∷ 96 ∷ []))
     ∷ case (marks instants 3 9 lent) (gives 0 0 4 0 (1 ∷ 0 ∷ 2 ∷ 3 ∷ 94 ∷ 95 ∷ 96 ∷ []))
     ∷ case (marks equalStarts 3 9 lent) (gives 0 0 4 0 (2 ∷ 0 ∷ 1 ∷ 3 ∷ 94 ∷ 95 ∷ 96 ∷ []))
-    ∷ case (marks shortensLower 2 9 lent) (gives 0 0 3 2 (1 ∷ 0 ∷ 2 ∷ 93 ∷ 94 ∷ 95 ∷ 96 ∷ []))
+    ∷ case (marks shortensLower 2 9 lent) (gives 0 0 3 2 (2 ∷ 0 ∷ 1 ∷ 93 ∷ 94 ∷ 95 ∷ 96 ∷ []))
     ∷ case (marks shortensNot 2 9 lent) (gives 0 0 3 2 (0 ∷ 1 ∷ 2 ∷ 93 ∷ 94 ∷ 95 ∷ 96 ∷ []))
     -- refusals in marking: 1 before 2, and so on
     ∷ case (marks (C2 ++ 7 ∷ []) 1 9 lent) (gives 1 0 0 0 lent)

@@ -1,4 +1,4 @@
--- The methods, in the sequence of document 01: the prepared history, what a method places, zones, LBT, FZF, the marking call.
+-- The methods, in the sequence of document 01: ranks for stamps, the prepared history, what a method places, zones, LBT, FZF, the marking call.
 pub mod Extremes
 pub mod Ranks
 pub mod Prepared

@@ -1,5 +1,5 @@
--- The prepared history (document 01, "Doubled stamps"; 000, section II.C): a register's operations by rising start, their stamps doubled and
--- the writes shortened. This is the one place where stamps become what the methods work on.
+-- The prepared history (document 01, "Doubled stamps"; document 02, W-203; 000, section II.C): a register's operations by rising start, with doubled
+-- ranks for stamps, and the writes shortened. This is the one place where stamps become what the methods work on.
 -- Assumes nothing.
 use Prim.Native.Nat.{ℕ, _*_, _-_}
 use mathlib.Core.Bool.{Bool, cond, not}
@@ -54,6 +54,6 @@ short h o = stamped (2 * o .start) (newFinish h o) o
 abbrev pub shorten : List Op → List Op
 shorten h = map (short h) h
 
--- the history that zones, LBT and FZF work on (01, "Doubled stamps")
+-- the history that zones, LBT and FZF work on (01, "Doubled stamps"; 02, W-203)
 unfoldable pub prepared : List Op → List Op
 prepared h = shorten (byStart (ranked h))

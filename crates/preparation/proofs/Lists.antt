@@ -2,14 +2,11 @@
 -- Assumes nothing.
 use Prim.Native.Nat.{ℕ, zero, suc, _+_, _-_, _<_}
 use mathlib.Core.Path.{_≡_, refl, sym, ap, _∙_}
-use mathlib.Core.Bool.{Bool}
 use mathlib.Core.List.{List, [], _∷_, _++_, map, append-assoc, List·Memᴰ as In, List·Memᴰ·head as here, List·Memᴰ·tail as there}
 use native.Mathlib.Omega.{arith}
-use lib.ListN.{length, getD, take, drop, length-append, length-map}
+use lib.ListN.{length, getD, take, drop, length-append}
 use lib.Seq.{getD-append-seam, take-append-seam}
-use Rattle.lists.specs.Lists.{keep}
 use Rattle.lists.specs.Pairs.{Pairs, nil, cons}
-use Rattle.lists.proofs.Images.{keep-map}
 use Rattle.lists.proofs.Cover.{in-at, at-in}
 
 -- Where R holds between each element and every later one: two members are one, or R holds between them in the one or the other sequence.
@@ -61,10 +58,6 @@ module _ {A B : Type 0} (f : A → B) where
     where
       on : Split l b y c → Split (x ∷ l) (z ∷ b) y c
       on s = record { front = x ∷ s .front; at = s .at; back = s .back; whole = ap (λ r. x ∷ r) (s .whole); to-front = cc; to-at = s .to-at; to-back = s .to-back }
-
-  -- an image has as many elements that pass
-  pub count-map : (p : B → Bool) (l : List A) → length (keep p (map f l)) ≡ length (keep (λ x. p (f x)) l)
-  count-map p l = ap length (keep-map f p l) ∙ length-map (keep (λ x. p (f x)) l) f
 
 -- A list cut at two positions, p and then q: what stands there, and what between.
 pub record Cut (l : List ℕ) (p q : ℕ) : Type 0 where

@@ -54,6 +54,14 @@ sooner-trans c d e = lower-trans (c .stamp) (d .stamp) (e .stamp) (lower-trans (
 pub never-sooner : (e : Event) → Sooner e e → ⊥
 never-sooner e = lower-not (e .stamp) (lower-not (e .side) (λ l. omega arith))
 
+-- a start that is not above a finish comes before it
+pub meets-sooner : (x y : Op) → x .start ≤ y .finish → Sooner (starting x) (finishing y)
+meets-sooner x y l = go (decLt (x .start) (y .finish))
+  where
+    go : Dec (x .start < y .finish) → Sooner (starting x) (finishing y)
+    go (yes k) = inl k
+    go (no k) = inr (omega arith, inl (omega arith))
+
 module _ (h : List Op) where
   pub start-in : {x : Op} → In x h → In (starting x) (events h)
   start-in m = Memᴰ·append-left (map finishing h) (map-in starting m)
@@ -73,15 +81,11 @@ module _ (h : List Op) where
 
   module _ {x y : Op} (m : In x h) (n : In y h) where
     -- precedence by ranks is precedence by stamps
-    pub precedes-ranked : x .finish < y .start → byRank h x .finish < byRank h y .start
+    precedes-ranked : x .finish < y .start → byRank h x .finish < byRank h y .start
     precedes-ranked l = rank-rises (finish-in m) (inl l)
 
     pub meets-ranked : x .start ≤ y .finish → byRank h x .start < byRank h y .finish
-    meets-ranked l = rank-rises (start-in m) (go (decLt (x .start) (y .finish)))
-      where
-        go : Dec (x .start < y .finish) → Sooner (starting x) (finishing y)
-        go (yes k) = inl k
-        go (no k) = inr (omega arith, inl (omega arith))
+    meets-ranked l = rank-rises (start-in m) (meets-sooner x y l)
 
   -- stamps of two rows, both starts or both finishes, have different ranks
   pub ranks-differ : {d e : Event} → In d (events h) → In e (events h) → d .side ≡ e .side → d .row < e .row → rank h d ≢ rank h e

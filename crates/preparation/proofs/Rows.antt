@@ -9,6 +9,7 @@ use native.Mathlib.Omega.{arith}
 use lib.ListN.{length, getD, take, drop, length-append}
 use lib.Seq.{length-take-le, split-at, getD-append-seam}
 use Rattle.lists.proofs.Tests.{told-true, true-told}
+use Rattle.lists.proofs.Counts.{count-map}
 use Rattle.lists.proofs.Maps.{in-map, map-in}
 use Rattle.lists.proofs.Pairs.{pairs-image, image-pairs}
 use Rattle.lists.proofs.Cover.{in-at, at-in}
@@ -23,16 +24,17 @@ use Rattle.methods.specs.Mark.{rowNumbers}
 use Rattle.witnesses.specs.Orders.{Before, Orders}
 use Rattle.witnesses.proofs.Runs.{Near, passed, runs-near, near-runs}
 use Rattle.preparation.specs.Claims.{RowsRise, OrdersOfRows}
-use Rattle.preparation.proofs.Lists.{pairs-at, at-pairs, Split, map-split, count-map, Cut, cut-places, cut-one, cut-middle}
+use Rattle.preparation.proofs.Lists.{pairs-at, at-pairs, Split, map-split, Cut, cut-places, cut-one, cut-middle}
 use Rattle.preparation.proofs.Timed.{read-kind, kind-read}
 
 row-at : (t : List ℕ) (i : ℕ) → opAt t i .row ≡ i
 unfolding opAt
 row-at t i = refl
 
-rows-at : (t l : List ℕ) → l ≡ rowNumbers (map (opAt t) l)
-rows-at t [] = refl
-rows-at t (i ∷ l) = ap₂ (λ j r. j ∷ r) (sym (row-at t i)) (rows-at t l)
+-- an operation has the number of its row
+pub rows-back : (t l : List ℕ) → rowNumbers (map (opAt t) l) ≡ l
+rows-back t [] = refl
+rows-back t (i ∷ l) = ap₂ (λ j r. j ∷ r) (row-at t i) (rows-back t l)
 
 pub history-rows : (t : List ℕ) (register : ℕ) → RowsRise (history t register)
 unfolding history opAt
@@ -190,5 +192,5 @@ module _ (t : List ℕ) (register : ℕ) where
 pub orders-of-rows : (t : List ℕ) (register : ℕ) → OrdersOfRows t register
 orders-of-rows t register k rows = (
   λ (o, e, h). rw e (placed-atomic t register (rowNumbers o) (rw (by-rows t register o (h .from)) at h)),
-  λ s h. (map (opAt t) rows, rows-at t rows, placed-orders t register rows s h),
+  λ s h. (map (opAt t) rows, sym (rows-back t rows), placed-orders t register rows s h),
 )

@@ -21,7 +21,7 @@ use Rattle.preparation.proofs.Timed.{Timed, from-sorted, into-sorted, o
 use Rattle.preparation.proofs.Stamped.{anew-rows, reads-of, proper-on, orders-on, orders-back}
 use Rattle.preparation.proofs.Finish.{New, whole, cut, new, new-read, new-le, new-first}
 
--- the new stamps of an operation of H
+-- the new start of an operation
 abbrev doubled : Op → ℕ
 doubled o = 2 * o .start
 
@@ -31,10 +31,11 @@ module _ (H : List Op) (g : Timed H) where
   span x m (whole e) = omega (arith, g .proper .span x m)
   span x m (cut r d l e) = omega (arith, g .timely x r d, g .cross r x (d .mem) m)
 
-  -- a doubled finish is even, and one that is cut short is odd
+  -- a finish comes after a start
   above : (r : Op) → In r H → 0 < r .finish
   above r m = omega (arith, g .proper .span r m, g .cross r r m m)
 
+  -- a doubled stamp is even, and a finish that is cut short is odd
   cross : (x y : Op) → In x H → In y H → newFinish H x ≡ 2 * y .start → New H x → ⊥
   cross x y m n q (whole e) = g .cross x y m n (omega arith)
   cross x y m n q (cut r d l e) = omega (arith, above r (d .mem))

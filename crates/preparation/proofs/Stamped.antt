@@ -4,7 +4,6 @@ use Prim.Native.Nat.{ℕ, _≤_}
 use mathlib.Core.Path.{_≡_, refl, sym, ap, _∙_}
 use mathlib.Core.Bool.{false}
 use mathlib.Core.List.{List, [], _∷_, map, List·Memᴰ as In, List·Memᴰ·head as here, List·Memᴰ·tail as there, Memᴰ·cast}
-use native.Mathlib.Omega.{arith}
 use Rattle.lists.specs.Pairs.{Pairs, nil, cons}
 use Rattle.lists.proofs.Maps.{in-map, map-in}
 use Rattle.lists.proofs.Pairs.{pairs-map, pairs-image, image-pairs}

@@ -1,4 +1,4 @@
--- What the screening leaves, in the words of histories: a history whose stamps differ and in which no read precedes its write.
+-- What the screening and ranks for stamps leave, in the words of histories: a history whose stamps differ and in which no read precedes its write.
 -- Assumes nothing.
 use Prim.Native.Nat.{ℕ, _≤_, _<_}
 use mathlib.Core.Path.{_≡_, refl, sym, ap}
@@ -24,10 +24,10 @@ use Rattle.witnesses.proofs.Places.{bef-in, bef-in₂, bef-pair}
 use Rattle.witnesses.proofs.Parts.{write-sub, reads-sub}
 use Rattle.preparation.specs.Claims.{RowsRise}
 use Rattle.preparation.proofs.Lists.{Met, alike, ahead, behind, met}
-use Rattle.preparation.proofs.Ranks.{start-in, finish-in, ranks-differ, precedes-ranked, meets-ranked}
+use Rattle.preparation.proofs.Ranks.{start-in, finish-in, ranks-differ, meets-ranked, keeps-precedence}
 use Rattle.preparation.proofs.Stamped.{reads-of, proper-on, orders-on, orders-back}
 
--- A history by rising start, as the screening leaves it: a prepared one but for the writes that finish after a read of theirs.
+-- A history by rising start, as the screening and the ranks leave it: a prepared one but for the writes that finish after a read of theirs.
 pub record Timed (H : List Op) : Type 0 where
   pub proper : Proper H
   pub rising : Pairs (λ x y. x .start < y .start) H
@@ -35,9 +35,9 @@ pub record Timed (H : List Op) : Type 0 where
   pub ends : (x y : Op) → In x H → In y H → x .finish ≡ y .finish → x ≡ y
   pub timely : (w r : Op) → Reads H w r → w .start ≤ r .finish
 
--- x stands in a lower row than y
-abbrev Lower : Op → Op → Type 0
-Lower x y = x .row < y .row
+-- x stands in an earlier row than y
+abbrev Earlier : Op → Op → Type 0
+Earlier x y = x .row < y .row
 
 -- the kinds are two: a read is no write, and what is no write is a read
 pub kind-read : (r : Op) → r .kind ≡ 2 → isWrite r ≡ false
@@ -52,7 +52,7 @@ module _ {size : ℕ} {h : List Op} (s : Screened size h) where
       go (inr k) = k
 
   -- what the tests say of an earlier and a later row, for any two operations
-  one : (x y : Op) → Write h x → Write h y → Met Lower x y → x .value ≡ y .value → x ≡ y
+  one : (x y : Op) → Write h x → Write h y → Met Earlier x y → x .value ≡ y .value → x ≡ y
   one x y u v (alike d) e = d
   one x y u v (ahead l) e = absurd (s .values x y (u .mem) (v .mem) l (told-true (told-write x) (u .write)) (told-true (told-write y) (v .write)) e)
   one x y u v (behind l) e = absurd (s .values y x (v .mem) (u .mem) l (told-true (told-write y) (v .write)) (told-true (told-write x) (u .write)) (sym e))
@@ -75,18 +75,18 @@ module _ {size : ℕ} {h : List Op} (s : Screened size h) where
         record {
           rows = pairs-map a (λ x y m n l e. omega arith);
           span = λ x m. s .spans x m .0;
-          one = λ x y u v. one x y u v (met Lower a (u .mem) (v .mem));
+          one = λ x y u v. one x y u v (met Earlier a (u .mem) (v .mem));
           dict = dict;
         }
 
 -- WITH RANKS FOR STAMPS no two stamps are equal, and all else is as the screening leaves it.
 module _ {size : ℕ} {h : List Op} (s : Screened size h) (a : RowsRise h) where
-  starts : (x y : Op) → In x h → In y h → Met Lower x y → byRank h x .start ≡ byRank h y .start → x ≡ y
+  starts : (x y : Op) → In x h → In y h → Met Earlier x y → byRank h x .start ≡ byRank h y .start → x ≡ y
   starts x y m n (alike d) e = d
   starts x y m n (ahead l) e = absurd (ranks-differ h (start-in h m) (start-in h n) refl l e)
   starts x y m n (behind l) e = absurd (ranks-differ h (start-in h n) (start-in h m) refl l (sym e))
 
-  ends : (x y : Op) → In x h → In y h → Met Lower x y → byRank h x .finish ≡ byRank h y .finish → x ≡ y
+  ends : (x y : Op) → In x h → In y h → Met Earlier x y → byRank h x .finish ≡ byRank h y .finish → x ≡ y
   ends x y m n (alike d) e = d
   ends x y m n (ahead l) e = absurd (ranks-differ h (finish-in h m) (finish-in h n) refl l e)
   ends x y m n (behind l) e = absurd (ranks-differ h (finish-in h n) (finish-in h m) refl l (sym e))
@@ -95,7 +95,7 @@ module _ {size : ℕ} {h : List Op} (s : Screened size h) (a : RowsRise h) where
   cross x y m n e = go (decLt (x .finish) (y .start))
     where
       go : Dec (x .finish < y .start) → ⊥
-      go (yes l) = omega (arith, precedes-ranked h m n l)
+      go (yes l) = omega (arith, keeps-precedence h x y m n .1 l)
       go (no l) = omega (arith, meets-ranked h n m (omega arith))
 
   ranked-proper : Proper (ranked h)
@@ -114,7 +114,7 @@ module _ {size : ℕ} {h : List Op} (s : Screened size h) (a : RowsRise h) where
   unfolding ranked
   ranked-orders g =
       orders-back (λ o. rank h (starting o)) (λ o. rank h (finishing o)) h (screened-proper s a)
-      (λ x y m n l. go x y (decLt (y .finish) (x .start)) (precedes-ranked h n m) l) g
+      (λ x y m n l. go x y (decLt (y .finish) (x .start)) (keeps-precedence h y x n m .1) l) g
     where
       go : (x y : Op) → Dec (y .finish < x .start) → (y .finish < x .start → byRank h y .finish < byRank h x .start) → byRank h x .start ≤ byRank h y .finish → x .start ≤ y .finish
       go x y (yes k) f l = absurd (omega (arith, f k))
@@ -160,7 +160,7 @@ module _ {size : ℕ} {h : List Op} (s : Screened size h) (a : RowsRise h) where
   unfolding ranked
   starts-differ =
       pairs-image (byRank h)
-      (pairs-map a (λ x y m n l e. omega (arith, ap (λ o. o .row) (starts s a x y m n (met Lower a m n) e))))
+      (pairs-map a (λ x y m n l e. omega (arith, ap (λ o. o .row) (starts s a x y m n (met Earlier a m n) e))))
 
   early : (w r : Op) → Reads (ranked h) w r → w .start ≤ r .finish
   unfolding ranked
@@ -177,7 +177,7 @@ module _ {size : ℕ} {h : List Op} (s : Screened size h) (a : RowsRise h) where
         ends = λ x y m n e.
             let (u, i, p) = of m in
             let (v, j, q) = of n in
-            let z : u ≡ v = ends s a u v i j (met Lower a i j) (cc (ap (λ o. o .finish) p, ap (λ o. o .finish) q)) in
+            let z : u ≡ v = ends s a u v i j (met Earlier a i j) (cc (ap (λ o. o .finish) p, ap (λ o. o .finish) q)) in
             cc;
         timely = λ w r d. early w r (reads-sub from-sorted d);
       }

@@ -19,11 +19,11 @@ use Rattle.methods.specs.Mark.{rowNumbers}
 use Rattle.witnesses.specs.Histories.{Prepared}
 use Rattle.witnesses.specs.Orders.{Orders}
 
--- the operations stand by row, as a register's do
+-- the operations stand by row, as a register's do (01, "The row")
 abbrev pub RowsRise : List Op → Type 0
 RowsRise h = Pairs (λ x y. x .row < y .row) h
 
--- the rows of a valid k-atomic order of h
+-- the rows of a valid k-atomic order of h (000, section II.A)
 abbrev pub OrderOf : ℕ → List Op → List ℕ → Type 0
 OrderOf k h rows = (o : List Op) × (rows ≡ rowNumbers o) × Orders k h o
 
@@ -39,11 +39,11 @@ KeepsPrecedence h = (x y : Op) → In x h → In y h → (byRank h x .finish < b
 abbrev pub HasPrepared : ℕ → List Op → Type 0
 HasPrepared size h = Screened size h → RowsRise h → Prepared (prepared h)
 
--- It has as many writes.
+-- It has as many writes (01, "Doubled stamps").
 abbrev pub KeepsWrites : List Op → Type 0
 KeepsWrites h = writeCount (prepared h) ≡ writeCount h
 
--- Its k-atomic orders are the register's, for every k: rows in such an order of the one are in one of the other.
+-- Its k-atomic orders are the register's, for every k: rows in such an order of the one are in one of the other (01, "Doubled stamps").
 abbrev pub KeepsOrders : ℕ → List Op → Type 0
 KeepsOrders size h = Screened size h → RowsRise h → (k : ℕ) (rows : List ℕ) → OrderOf k (prepared h) rows ↔ OrderOf k h rows
 

@@ -1,4 +1,4 @@
 -- The laws of the merging, and the columns of ranks.
-pub mod Parting
+pub mod Ties
 pub mod Merging
 pub mod Ranking

@@ -17,18 +17,17 @@ use Rattle.lists.specs.Pairs.{Pairs}
 use Rattle.lists.proofs.Tests.{told-true, true-told, false-told}
 use Rattle.lists.proofs.Ranges.{in-below, below-in, at-each, from-at, from-length}
 use Rattle.lists.proofs.Pairs.{pairs-map, pairs-both, image-pairs}
-use Rattle.lists.proofs.Counts.{count-sort}
+use Rattle.lists.proofs.Counts.{count-map, count-sort}
 use Rattle.lists.proofs.Sorts.{in-sort, sort-in, sort-length, sort-apart}
 use Rattle.lists.proofs.Merges.{Stable, key-order, sort-stable, sort-rises}
 use Rattle.lists.proofs.Images.{keep-append, map-twice, getD-map, in-at, getD-in, pairs-at}
 use Rattle.history.specs.declared.Op.{Op}
-use Rattle.history.specs.Table.{opAt}
+use Rattle.history.specs.Table.{largestCount, opAt}
 use Rattle.methods.specs.Ranks.{Event, starting, finishing, events, sooner, rank}
 use Rattle.methods.specs.Prepared.{startsFirst, byStart}
-use Rattle.preparation.proofs.Lists.{count-map}
-use Rattle.preparation.proofs.Ranks.{Lower, Sooner, told-sooner, sooner-trans, never-sooner}
-use Rattle.ranking.specs.Ranked.{rowOp, Fit, Stands, Standing, Stamps, finishesFirst, finishAt, Ready, Front, Merged, Ranked, RanksOf}
-use Rattle.ranking.proofs.Parting.{told-first, finishes-order}
+use Rattle.preparation.proofs.Ranks.{Lower, Sooner, meets-sooner, told-sooner, sooner-trans, never-sooner}
+use Rattle.ranking.specs.Ranked.{Fit, Stands, Standing, Stamps, finishesFirst, finishAt, Ready, Front, Merged, Ranked, RanksOf}
+use Rattle.ranking.proofs.Ties.{told-first, finishes-order}
 
 -- where the first j of a list pass, and no others, j of them pass
 front-count : (q : ℕ → Bool) (l : List ℕ) (j : ℕ) → j ≤ length l → ((k : ℕ) → k < j → q (getD l k 0) ≡ true) →
@@ -48,19 +47,13 @@ start-finish : (x y : Op) → Sooner (starting x) (finishing y) → x .start ≤
 start-finish x y (inl l) = omega arith
 start-finish x y (inr (e, _)) = omega arith
 
-finish-meets : (x y : Op) → x .start ≤ y .finish → Sooner (starting x) (finishing y)
-finish-meets x y l = go (decLt (x .start) (y .finish))
-  where
-    go : Dec (x .start < y .finish) → Sooner (starting x) (finishing y)
-    go (yes k) = inl k
-    go (no k) = inr (omega arith, inl (omega arith))
-
 module _ (t rows : List ℕ) (h : List Op) (g : Stands t rows h) where
   abbrev n : ℕ
   n = length rows
 
+  -- the operation of the row at a position
   abbrev f : ℕ → Op
-  f i = rowOp t rows i
+  f i = opAt t (getD rows i 0)
 
   row-of : (i : ℕ) → f i .row ≡ getD rows i 0
   unfolding opAt
@@ -190,7 +183,7 @@ module _ (t rows : List ℕ) (h : List Op) (g : Stands t rows h) where
         (front-count (λ a. sooner (starting (f a)) (finishing y)) (upTo n) i (omega (arith, from-length 0 n, c .few))
         (λ k m.
         let e : k < n = omega (arith, c .few) in
-        rw (up k e) (true-told (told-sooner (starting (f k)) (finishing y)) (finish-meets (f k) y (omega (arith, c .before k m, finish-at b l, start-is k e)))))
+        rw (up k e) (true-told (told-sooner (starting (f k)) (finishing y)) (meets-sooner (f k) y (omega (arith, c .before k m, finish-at b l, start-is k e)))))
         (λ k m u.
         let e : k < n = omega (arith, from-length 0 n) in
         rw (up k e) (false-told (told-sooner (starting (f k)) (finishing y)) (λ d. c .behind k m e (omega (arith, start-finish (f k) y d, finish-at b l, start-is k e))))))
@@ -263,7 +256,7 @@ module _ (t rows starts finishes list₀ list : List ℕ) (s : Stamps t rows sta
   list-is : list ≡ sort (finishesFirst rows finishes) (upTo (length rows))
   list-is = e ∙ ap (λ k. sort (finishesFirst rows finishes) (upTo k)) size
 
-  pub merge-takes : Standing t rows → Fit t rows → length rows ≤ 1024 → Ready starts finishes list × (length list ≤ 1024)
+  pub merge-takes : Standing t rows → Fit t rows → length rows ≤ largestCount → Ready starts finishes list × (length list ≤ largestCount)
   merge-takes (h, g) f l =
       let d : length list ≡ length rows = ap length list-is ∙ long t rows h g starts finishes s in
       (rw list-is (ready t rows h g starts finishes s f), omega arith)

@@ -7,24 +7,20 @@ use mathlib.Core.Bool.{Bool, false, cond}
 use mathlib.Core.List.{List, map, List·Memᴰ as In}
 use lib.Dec.{ltb, leb}
 use lib.ListN.{length, getD}
-use Rattle.lists.specs.Pairs.{Pairs}
 use Rattle.history.specs.declared.Op.{Op}
-use Rattle.history.specs.Table.{largestStamp, opAt}
+use Rattle.history.specs.Table.{opAt}
 use Rattle.methods.specs.Ranks.{starting, finishing, lower, rank}
 use Rattle.methods.specs.Prepared.{byStart}
+use Rattle.preparation.specs.Claims.{RowsRise}
 
--- the operation of the row at a position
-abbrev pub rowOp : List ℕ → List ℕ → ℕ → Op
-rowOp t rows j = opAt t (getD rows j 0)
-
--- rows of the table, whose stamps passed the screening
+-- rows of the table whose stamps passed the screening (01, code 5; 02, W-203)
 pub record Fit (t rows : List ℕ) : Type 0 where
   pub inside : (x : ℕ) → In x rows → x * 5 + 5 ≤ length t
-  pub spans : (x : ℕ) → In x rows → (opAt t x .start ≤ opAt t x .finish) × (opAt t x .finish ≤ largestStamp)
+  pub spans : (x : ℕ) → In x rows → opAt t x .start ≤ opAt t x .finish
 
--- h are operations whose rows rise, and by rising start they are those of the rows
+-- h are operations whose rows rise, and by rising start they are those of the rows (01, "Doubled stamps")
 pub record Stands (t rows : List ℕ) (h : List Op) : Type 0 where
-  pub rise : Pairs (λ x y. x .row < y .row) h
+  pub rise : RowsRise h
   pub sorted : byStart h ≡ map (opAt t) rows
 
 -- there are such operations
@@ -36,7 +32,7 @@ pub record Stamps (t rows starts finishes : List ℕ) : Type 0 where
   pub begin : starts ≡ map (λ x. opAt t x .start) rows
   pub end : finishes ≡ map (λ x. opAt t x .finish) rows
 
--- a goes before b: its finish is below, or they are equal and its row is no higher
+-- a goes before b: its finish is below, or they are equal and its row is no higher (02, W-203)
 abbrev pub finishesFirst : List ℕ → List ℕ → ℕ → ℕ → Bool
 finishesFirst rows finishes a b = lower (getD finishes a 0) (getD finishes b 0) (leb (getD rows a 0) (getD rows b 0))
 
@@ -45,7 +41,7 @@ abbrev pub finishAt : List ℕ → List ℕ → ℕ → ℕ
 finishAt finishes list k = getD finishes (getD list k 0) 0
 
 -- the places from one to the end, and no further ones, have the finish of the first
-pub record Run (finishes list : List ℕ) (from end : ℕ) : Type 0 where
+pub record Tie (finishes list : List ℕ) (from end : ℕ) : Type 0 where
   pub some : from < end
   pub inside : end ≤ length list
   pub equal : (k : ℕ) → from ≤ k → k < end → finishAt finishes list k ≡ finishAt finishes list from
@@ -82,7 +78,7 @@ pub record Merged (starts finishes list start finish : List ℕ) : Type 0 where
       b < length list →
       (i : ℕ) × (getD finish (getD list b 0) 0 ≡ 2 * (i + b)) × Front (λ k. getD starts k 0 ≤ finishAt finishes list b) (length list) i
 
--- the doubled ranks of the starts and of the finishes
+-- the doubled ranks of the starts and of the finishes (01, "Doubled stamps"; 02, W-203)
 pub record Ranked (t rows : List ℕ) (h : List Op) (start finish : List ℕ) : Type 0 where
   pub starts : start ≡ map (λ x. 2 * rank h (starting (opAt t x))) rows
   pub finishes : finish ≡ map (λ x. 2 * rank h (finishing (opAt t x))) rows

@@ -7,7 +7,7 @@ ghost use Rattle.lists.specs.Lists.{upTo};
 ghost use Rattle.lists.specs.Pairs.{Pairs};
 ghost use Rattle.lists.specs.Sorts.{sort};
 ghost use Rattle.history.specs.Table.{largestCount};
-ghost use Rattle.ranking.specs.Ranked.{Fit, Standing, Stamps, finishesFirst, Run, Ready, comesFirst, Merged, RanksOf};
+ghost use Rattle.ranking.specs.Ranked.{Fit, Standing, Stamps, finishesFirst, Tie, Ready, comesFirst, Merged, RanksOf};
 
 // The starts and the finishes of the rows.
 fn stamps_of(table: &[u64], rows: &[u64], starts: &mut [u64], finishes: &mut [u64])
@@ -25,9 +25,9 @@ fn stamps_of(table: &[u64], rows: &[u64], starts: &mut [u64], finishes: &mut [u6
 }
 
 // Where the positions that have one finish end, from a place of the list on.
-fn run_end(finishes: &[u64], list: &[u64], from: usize) -> usize
+fn tie_end(finishes: &[u64], list: &[u64], from: usize) -> usize
     requires { ⌜ from < length (now list) ⌝ }
-    ensures { λ r. ⌜ Run (now (finishes .entry)) (now (list .entry)) from r ⌝ }
+    ensures { λ r. ⌜ Tie (now (finishes .entry)) (now (list .entry)) from r ⌝ }
 {
     let finish = sorting::key(finishes, list[from]);
     let mut end = from + 1;
@@ -41,14 +41,16 @@ fn run_end(finishes: &[u64], list: &[u64], from: usize) -> usize
 }
 
 // Puts positions by rising finish into the sequence of their ranks: those that have one finish by row.
-fn part(rows: &[u64], finishes: &[u64], list: &mut [u64])
+fn by_row(rows: &[u64], finishes: &[u64], list: &mut [u64])
     requires { ⌜ Pairs (λ a b. getD (now finishes) a 0 ≤ getD (now finishes) b 0) (now list) ⌝ }
     ensures { λ _. ⌜ now (list .exit) ≡ sort (finishesFirst (now (rows .entry)) (now (finishes .entry))) (now (list .entry)) ⌝ }
 {
     let mut at: usize = 0;
     while at < list.len() {
-        let end = run_end(finishes, list, at);
-        sorting::sort_by(rows, &mut list[at..end]);
+        let end = tie_end(finishes, list, at);
+        if at + 1 < end {
+            sorting::sort_by(rows, &mut list[at..end]);
+        }
         at = end;
     }
 }
@@ -58,7 +60,7 @@ fn by_finish(rows: &[u64], finishes: &[u64], list: &mut [u64])
     ensures { λ _. ⌜ now (list .exit) ≡ sort (finishesFirst (now (rows .entry)) (now (finishes .entry))) (upTo (length (now (list .entry)))) ⌝ }
 {
     sorting::places_by(finishes, list);
-    part(rows, finishes, list);
+    by_row(rows, finishes, list);
 }
 
 // Whether there is a start at i, not above the finish: at an equal stamp starts come before finishes.
@@ -78,7 +80,8 @@ fn doubled(rank: usize) -> u64
     2 * (rank as u64)
 }
 
-// Puts twice its rank in the place of each start and of each finish, with the positions by rising finish.
+// Puts twice its rank in the place of each start and of each finish, with the positions by rising finish. It ends with the finishes: each start has
+// one that is not below it, so by then the starts have their ranks too.
 fn merge(list: &[u64], start: &mut [u64], finish: &mut [u64])
     requires { ⌜ Ready (now start) (now finish) (now list) ⌝ }
     requires { ⌜ length (now list) ≤ largestCount ⌝ }

@@ -1,4 +1,4 @@
--- The loops that gather the register's rows and list the stamps, with a law for each way through a turn.
+-- The loops that count and gather the register's rows, with a law for each way through a turn.
 -- Assumes nothing.
 use Prim.Native.Nat.{ℕ, _+_, _≤_, _<_}
 use mathlib.Core.Path.{_≡_, refl, ap, ap₂, sym, _∙_}

@@ -166,6 +166,9 @@ impl Counts {
         let Ties { marks, starts, finishes, touching, no_length } = self.ties;
         let marked = self.tally.came(FRESH) + self.tally.came(STALE);
         let tied = 2 * marks > marked && [starts, finishes, touching, no_length].iter().all(|&count| 10 * count > marks);
+        if !tied {
+            println!("valgrist_mark: too few marks of registers with equal stamps");
+        }
         self.tally.sound("valgrist_mark", &CODES) && tied
     }
 
@@ -174,6 +177,7 @@ impl Counts {
         println!("valgrist_mark: {} files, of them damaged {}, of up to {} rows", self.files, self.damaged, self.largest);
         println!("plain side: orders accepted {}, marks held to all orders {}", self.orders, self.tried);
         let Ties { marks, starts, finishes, touching, no_length } = self.ties;
-        println!("equal stamps: marks {marks}; two starts {starts}, two finishes {finishes}, a start and another row's finish {touching}, a row of no length {no_length}");
+        println!("equal stamps: marks {marks}; two starts {starts}, two finishes {finishes}");
+        println!("equal stamps: a start and another row's finish {touching}, a row of no length {no_length}");
     }
 }

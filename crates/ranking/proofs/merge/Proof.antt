@@ -1,15 +1,11 @@
 -- Each turn gives the next rank to a start or to a finish (`Merging`).
 use Prim.Native.Nat.{_*_, _-_}
-use mathlib.Core.Path.{_∙_, sym, refl}
+use mathlib.Core.Path.{_∙_, sym}
 use native.Mathlib.Omega.{arith}
 use lib.ListN.{length}
 use Rattle.ranking.proofs.Merging.{Merging, first-start, merge-none, merge-start, merge-finish, merge-end}
 use Rattle.ranking.proofs.merge.Statement.{statement}
 use Rattle.ranking.proofs.merge.Tie as tie
-use Rattle.ranking.proofs.merge.Reads as reads
-use Rattle.ranking.proofs.merge.Lts as lts
-use Rattle.ranking.proofs.comes_first.Reads as comes-first-reads
-use Rattle.ranking.proofs.doubled.Reads as doubled-reads
 
 abbrev Inv-loop : tie.InvT-loop
 Inv-loop list start₀ finish₀ i₀ j₀ start finish i j = Merging start₀ finish₀ list i j start finish
@@ -17,51 +13,43 @@ Inv-loop list start₀ finish₀ i₀ j₀ start finish i j = Merging start₀ f
 abbrev μ-loop : tie.MeasureT-loop
 μ-loop list start₀ finish₀ i₀ j₀ start finish i j = 2 * length list - i - j
 
--- src/lib.rt:89:5
 loop-holds : tie.Need-loop-holds Inv-loop μ-loop
 loop-holds c =
     merge-none _ _ _ (c .before .before .before .pre .0)
 
--- src/lib.rt:90:18
 mul-at : tie.Need-mul-at Inv-loop μ-loop
 mul-at c =
     let l = c .before .loop in
     let p = c .before .before .before .before .before .pre in
     omega (arith, l .inv .few-starts, l .inv .few-finishes, p .1)
 
--- src/lib.rt:90:18
 shared-slice-read-at : tie.Need-shared-slice-read-at Inv-loop μ-loop
 shared-slice-read-at c =
     let l = c .before .before .loop in
     let p = c .before .before .before .before .before .before .pre in
     omega (arith, l .inv .few-starts, l .inv .few-finishes, p .1)
 
--- src/lib.rt:91:34
 mul-comes-first : tie.Need-mul-comes-first Inv-loop μ-loop
 mul-comes-first c =
     let l = c .before .before .before .loop in
     let p = c .before .before .before .before .before .before .before .pre in
     omega (arith, p .0 .inside (l .j) (omega arith), l .inv .size-finish, p .1)
 
--- src/lib.rt:91:34
 slice-read-comes-first : tie.Need-slice-read-comes-first Inv-loop μ-loop
 slice-read-comes-first c =
     let l = c .before .before .before .before .loop in
     let p = c .before .before .before .before .before .before .before .before .pre in
     omega (arith, p .0 .inside (l .j) (omega arith), l .inv .size-finish, p .1)
 
--- src/lib.rt:91:12
 comes-first-requires : tie.Need-comes-first-requires Inv-loop μ-loop
 comes-first-requires c κs = tt
 
--- src/lib.rt:92:32
 add-doubled : tie.Need-add-doubled Inv-loop μ-loop
 add-doubled c =
     let l = c .before .before .before .before .before .before .loop in
     let p = c .before .before .before .before .before .before .before .before .before .before .pre in
     omega (arith, l .inv .few-starts, l .inv .few-finishes, p .1)
 
--- src/lib.rt:92:24
 doubled-requires : tie.Need-doubled-requires Inv-loop μ-loop
 doubled-requires c κs =
     let l = c .before .before .before .before .before .before .loop in
@@ -69,7 +57,6 @@ doubled-requires c κs =
     let e = sym (c .before .comes-first .ensures) ∙ c .if1 .taken in
     omega (arith, first-start _ _ _ (p .0) _ _ _ _ (l .inv) (omega arith) e .0, l .inv .size-start, l .inv .few-finishes, p .1)
 
--- src/lib.rt:92:13
 mul-start : tie.Need-mul-start Inv-loop μ-loop
 mul-start c =
     let l = c .before .before .before .before .before .before .before .loop in
@@ -77,7 +64,6 @@ mul-start c =
     let e = sym (c .before .before .comes-first .ensures) ∙ c .before .if1 .taken in
     omega (arith, first-start _ _ _ (p .0) _ _ _ _ (l .inv) (omega arith) e .0, l .inv .size-start, l .inv .few-finishes, p .1)
 
--- src/lib.rt:92:13
 slice-write-start : tie.Need-slice-write-start Inv-loop μ-loop
 slice-write-start c =
     let l = c .before .before .before .before .before .before .before .loop in
@@ -85,7 +71,6 @@ slice-write-start c =
     let e = sym (c .before .before .comes-first .ensures) ∙ c .before .if1 .taken in
     omega (arith, first-start _ _ _ (p .0) _ _ _ _ (l .inv) (omega arith) e .0, l .inv .size-start, l .inv .few-finishes, p .1)
 
--- src/lib.rt:93:13
 add-i : tie.Need-add-i Inv-loop μ-loop
 add-i c =
     let l = c .before .before .before .before .before .before .before .loop in
@@ -93,7 +78,6 @@ add-i c =
     let e = sym (c .before .before .comes-first .ensures) ∙ c .before .if1 .taken in
     omega (arith, first-start _ _ _ (p .0) _ _ _ _ (l .inv) (omega arith) e .0, l .inv .size-start, l .inv .few-finishes, p .1)
 
--- src/lib.rt:89:5
 loop-less : tie.Need-loop-less Inv-loop μ-loop
 loop-less c =
     let l = c .before .before .before .before .before .before .before .loop in
@@ -101,7 +85,6 @@ loop-less c =
     let e = sym (c .before .before .comes-first .ensures) ∙ c .before .if1 .taken in
     omega (arith, first-start _ _ _ (p .0) _ _ _ _ (l .inv) (omega arith) e .0, l .inv .size-start, l .inv .few-finishes, p .1)
 
--- src/lib.rt:89:5
 loop-again : tie.Need-loop-again Inv-loop μ-loop
 loop-again c =
     let l = c .before .before .before .before .before .before .before .loop in
@@ -109,49 +92,42 @@ loop-again c =
     let e = sym (c .before .before .comes-first .ensures) ∙ c .before .if1 .taken in
     merge-start _ _ _ (p .0) _ _ _ _ (l .inv) (omega arith) e _ (omega (arith, c .doubled .ensures))
 
--- src/lib.rt:95:34
 add-doubled-2 : tie.Need-add-doubled-2 Inv-loop μ-loop
 add-doubled-2 c =
     let l = c .before .before .before .before .before .before .loop in
     let p = c .before .before .before .before .before .before .before .before .before .before .pre in
     omega (arith, l .inv .few-starts, l .inv .few-finishes, p .1)
 
--- src/lib.rt:95:26
 doubled-requires-2 : tie.Need-doubled-requires-2 Inv-loop μ-loop
 doubled-requires-2 c κs =
     let l = c .before .before .before .before .before .before .loop in
     let p = c .before .before .before .before .before .before .before .before .before .before .pre in
     omega (arith, l .inv .few-starts, l .inv .few-finishes, p .1)
 
--- src/lib.rt:95:13
 mul-finish : tie.Need-mul-finish Inv-loop μ-loop
 mul-finish c =
     let l = c .before .before .before .before .before .before .before .loop in
     let p = c .before .before .before .before .before .before .before .before .before .before .before .pre in
     omega (arith, p .0 .inside (l .j) (omega arith), l .inv .size-finish, p .1)
 
--- src/lib.rt:95:13
 slice-write-finish : tie.Need-slice-write-finish Inv-loop μ-loop
 slice-write-finish c =
     let l = c .before .before .before .before .before .before .before .loop in
     let p = c .before .before .before .before .before .before .before .before .before .before .before .pre in
     omega (arith, p .0 .inside (l .j) (omega arith), l .inv .size-finish, p .1)
 
--- src/lib.rt:96:13
 add-j : tie.Need-add-j Inv-loop μ-loop
 add-j c =
     let l = c .before .before .before .before .before .before .before .loop in
     let p = c .before .before .before .before .before .before .before .before .before .before .before .pre in
     omega (arith, l .inv .few-starts, l .inv .few-finishes, p .1)
 
--- src/lib.rt:89:5
 loop-less-2 : tie.Need-loop-less-2 Inv-loop μ-loop
 loop-less-2 c =
     let l = c .before .before .before .before .before .before .before .loop in
     let p = c .before .before .before .before .before .before .before .before .before .before .before .pre in
     omega (arith, l .inv .few-starts, l .inv .few-finishes, p .1)
 
--- src/lib.rt:89:5
 loop-again-2 : tie.Need-loop-again-2 Inv-loop μ-loop
 loop-again-2 c =
     let l = c .before .before .before .before .before .before .before .loop in
@@ -159,17 +135,14 @@ loop-again-2 c =
     let e = sym (c .before .before .comes-first .ensures) ∙ c .before .if1 .left in
     merge-finish _ _ _ (p .0) _ _ _ _ (l .inv) (omega arith) e _ (omega (arith, c .doubled2 .ensures))
 
--- src/lib.rt:82:1
 same-length : tie.Need-same-length Inv-loop μ-loop
 same-length c =
     c .before .loop .inv .size-start ∙ sym (c .before .before .before .before .before .pre .0 .size-starts)
 
--- src/lib.rt:82:1
 same-length-2 : tie.Need-same-length-2 Inv-loop μ-loop
 same-length-2 c =
     c .before .loop .inv .size-finish ∙ sym (c .before .before .before .before .before .pre .0 .size-finishes)
 
--- src/lib.rt:82:1
 returns : tie.Need-returns Inv-loop μ-loop
 returns c =
     merge-end _ _ _ (c .before .before .before .before .before .pre .0) _ _ _ _ (c .before .loop .inv) (omega arith)

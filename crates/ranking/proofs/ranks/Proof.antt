@@ -3,39 +3,27 @@ use Rattle.ranking.proofs.Ranking.{merge-takes, ranks-end}
 use borrow.Author.Needs.{needs}
 use Rattle.ranking.proofs.ranks.Statement.{statement}
 use Rattle.ranking.proofs.ranks.Tie as tie
-use Rattle.ranking.proofs.ranks.Reads as reads
-use Rattle.ranking.proofs.ranks.Lts as lts
-use Rattle.ranking.proofs.by_finish.Reads as by-finish-reads
-use Rattle.ranking.proofs.merge.Reads as merge-reads
-use Rattle.ranking.proofs.stamps_of.Reads as stamps-of-reads
 
--- src/lib.rt:110:5
 stamps-of-requires : tie.Need-stamps-of-requires
 stamps-of-requires c κs = search needs
 
--- src/lib.rt:111:5
 by-finish-requires : tie.Need-by-finish-requires
 by-finish-requires c κs = search needs
 
--- src/lib.rt:112:5
 merge-requires : tie.Need-merge-requires
 merge-requires c κs =
     let a = c .before .before .before .before .before .before .before .before .before .before .before .before .before .before .before .before .before .before .before .before in
     merge-takes (a .args .table .now) (a .args .rows .now) _ _ (a .args .list .now) _ (c .before .before .before .before .before .before .before .before .before .before .before .before .stamps-of .ensures) (a .pre .1 .1 .0) (c .before .before .before .before .before .by-finish .ensures) (a .pre .1 .1 .1 .1) (a .pre .0) (a .pre .1 .0)
 
--- src/lib.rt:102:1
 same-length : tie.Need-same-length
 same-length c = search needs
 
--- src/lib.rt:102:1
 same-length-2 : tie.Need-same-length-2
 same-length-2 c = search needs
 
--- src/lib.rt:102:1
 same-length-3 : tie.Need-same-length-3
 same-length-3 c = search needs
 
--- src/lib.rt:102:1
 returns : tie.Need-returns
 returns c =
     let a = c .before .before .before .before .before .before .before .before .before .before .before .before .before .before .before .before .before .before .before .before .before .before .before .before .before in

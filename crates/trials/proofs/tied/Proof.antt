@@ -10,47 +10,36 @@ Inv-loop table n i₀ i = i ≤ n
 abbrev μ-loop : tie.MeasureT-loop
 μ-loop table n i₀ i = n - i
 
--- src/main.rt:244:5
 loop-holds : tie.Need-loop-holds Inv-loop μ-loop
 loop-holds c = omega arith
 
--- src/main.rt:245:13
 at-requires : tie.Need-at-requires Inv-loop μ-loop
 at-requires c κs = omega arith
 
--- src/main.rt:247:13
 returns : tie.Need-returns Inv-loop μ-loop
 returns c = omega arith
 
--- src/main.rt:249:12
 has-requires : tie.Need-has-requires Inv-loop μ-loop
 has-requires c κs = omega arith
 
--- src/main.rt:250:13
 returns-2 : tie.Need-returns-2 Inv-loop μ-loop
 returns-2 c = omega arith
 
--- src/main.rt:252:12
 has-requires-2 : tie.Need-has-requires-2 Inv-loop μ-loop
 has-requires-2 c κs = omega arith
 
--- src/main.rt:253:13
 returns-3 : tie.Need-returns-3 Inv-loop μ-loop
 returns-3 c = omega arith
 
--- src/main.rt:255:9
 add-i : tie.Need-add-i Inv-loop μ-loop
 add-i c = omega arith
 
--- src/main.rt:244:5
 loop-less : tie.Need-loop-less Inv-loop μ-loop
 loop-less c = omega arith
 
--- src/main.rt:244:5
 loop-again : tie.Need-loop-again Inv-loop μ-loop
 loop-again c = omega arith
 
--- src/main.rt:241:1
 returns-4 : tie.Need-returns-4 Inv-loop μ-loop
 returns-4 c = omega arith
 

@@ -3,7 +3,7 @@
 use Prim.Native.Nat.{ℕ, _+_, _-_, _≤_, _<_}
 use mathlib.Core.Path.{_≡_, refl, sym, ap, _∙_}
 use mathlib.Core.Logic.{_⊎_, inl, inr, _≢_}
-use mathlib.Core.Bool.{Bool, true, false, cond}
+use mathlib.Core.Bool.{Bool, true}
 use mathlib.Core.List.{List, [], _∷_, _++_, append-assoc, List·Memᴰ as In, List·Memᴰ·head as here, List·Memᴰ·tail as there, List·Memᴰ·append-cases, Memᴰ·append-left, Memᴰ·append-right}
 use native.Mathlib.Omega.{arith}
 use native.Mathlib.Nat.{eq-or-lt-of-le}
@@ -17,39 +17,39 @@ use Rattle.lists.proofs.Pairs.{pairs-map, pairs-append, pairs-behind, pairs-acr
 use Rattle.lists.proofs.Sorts.{in-sort, sort-length}
 use Rattle.lists.proofs.Images.{in-at, getD-in, sort-sorted, sort-ext}
 use Rattle.lists.proofs.Merges.{Order, sort-rises}
-use Rattle.lists.proofs.Groups.{insert-apart, sort-before, sort-behind}
+use Rattle.lists.proofs.Groups.{sort-inserted, sort-before, sort-behind}
 use Rattle.sorting.specs.Keys.{rises}
 use Rattle.sorting.proofs.Keys.{rises-order}
 use Rattle.preparation.proofs.Ranks.{Lower, told-lower, lower-trans, lower-else}
-use Rattle.ranking.specs.Ranked.{finishesFirst, finishAt, Run}
+use Rattle.ranking.specs.Ranked.{finishesFirst, finishAt, Tie}
 
 module _ (finishes : List ℕ) where
   pub finishes-rise : (l list : List ℕ) → list ≡ sort (rises finishes) l → Pairs (λ a b. getD finishes a 0 ≤ getD finishes b 0) list
   finishes-rise l list e = rw e (pairs-map (sort-rises (rises finishes) (rises-order finishes) l) (λ a b m n t. leb-true (getD finishes a 0) (getD finishes b 0) t))
 
   -- the places from one up to the end have the finish of the first
-  pub record Running (list : List ℕ) (from finish end : ℕ) : Type 0 where
+  pub record Tying (list : List ℕ) (from finish end : ℕ) : Type 0 where
     pub first : finish ≡ finishAt finishes list from
     pub some : from < end
     pub inside : end ≤ length list
     pub equal : (k : ℕ) → from ≤ k → k < end → finishAt finishes list k ≡ finishAt finishes list from
 
   module _ (list : List ℕ) (from finish : ℕ) where
-    pub run-none : from < length list → finish ≡ finishAt finishes list from → Running list from finish (from + 1)
-    run-none l e =
+    pub tie-none : from < length list → finish ≡ finishAt finishes list from → Tying list from finish (from + 1)
+    tie-none l e =
         record { first = e; some = omega arith; inside = omega arith; equal = λ k a b. let z : k ≡ from = omega arith in ap (finishAt finishes list) z }
 
-    module _ (end : ℕ) (g : Running list from finish end) where
-      pub run-more : end < length list → finishAt finishes list end ≡ finish → Running list from finish (end + 1)
-      run-more l e =
+    module _ (end : ℕ) (g : Tying list from finish end) where
+      pub tie-more : end < length list → finishAt finishes list end ≡ finish → Tying list from finish (end + 1)
+      tie-more l e =
           record { first = g .first; some = omega (arith, g .some); inside = omega arith; equal = λ k a b. go k a (eq-or-lt-of-le (omega arith)) }
         where
           go : (k : ℕ) → from ≤ k → (k ≡ end) ⊎ (k < end) → finishAt finishes list k ≡ finishAt finishes list from
           go k a (inl z) = ap (finishAt finishes list) z ∙ e ∙ g .first
           go k a (inr l) = g .equal k a l
 
-      pub run-done : (end < length list → finishAt finishes list end ≢ finish) → Run finishes list from end
-      run-done n = record { some = g .some; inside = g .inside; equal = g .equal; next = λ l e. n l (e ∙ sym (g .first)) }
+      pub tie-done : (end < length list → finishAt finishes list end ≢ finish) → Tie finishes list from end
+      tie-done n = record { some = g .some; inside = g .inside; equal = g .equal; next = λ l e. n l (e ∙ sym (g .first)) }
 
 module _ (rows finishes : List ℕ) where
   abbrev F : ℕ → ℕ
@@ -85,29 +85,19 @@ module _ (rows finishes : List ℕ) where
       go (inr (k, _)) = omega arith
 
   -- SORTED BY FINISH FIRST, it sorts alike
-  insert-first : (x : ℕ) (l : List ℕ) → sort le (insert (rises finishes) x l) ≡ insert le x (sort le l)
-  unfolding insert sort
-  insert-first x [] = refl
-  insert-first x (y ∷ l) = go (rises finishes x y) refl (insert-first x l)
-    where
-      go : (b : Bool) → rises finishes x y ≡ b → sort le (insert (rises finishes) x l) ≡ insert le x (sort le l)
-          → sort le (cond b (x ∷ (y ∷ l)) (y ∷ insert (rises finishes) x l)) ≡ insert le x (insert le y (sort le l))
-      go true e ih = refl
-      go false e ih =
-          ap (insert le y) ih
-          ∙ insert-apart le finishes-order y x (λ p q. above-not y x (leb-false (F x) (F y) e) q) (sort le l)
-
   pub sort-twice : (l : List ℕ) → sort le (sort (rises finishes) l) ≡ sort le l
   unfolding sort
   sort-twice [] = refl
-  sort-twice (x ∷ l) = insert-first x (sort (rises finishes) l) ∙ ap (insert le x) (sort-twice l)
+  sort-twice (x ∷ l) =
+      sort-inserted le finishes-order (rises finishes) (λ x y e p q. above-not y x (leb-false (F x) (F y) e) p) x (sort (rises finishes) l)
+      ∙ ap (insert le x) (sort-twice l)
 
   least-first : {l : List ℕ} → Pairs (λ a b. F a ≤ F b) l → {b : ℕ} → In b l → F (getD l 0 0) ≤ F b
   least-first (cons u t) (here e) = omega (arith, ap F e)
   least-first (cons u t) (there m) = u _ m
 
   -- the positions before `at` stand as they shall, below those from there on, which stand by rising finish
-  pub record Parting (list₀ : List ℕ) (at : ℕ) (list : List ℕ) : Type 0 where
+  pub record Settling (list₀ : List ℕ) (at : ℕ) (list : List ℕ) : Type 0 where
     pub within : at ≤ length list
     pub long : length list ≡ length list₀
     pub same : sort le list ≡ sort le list₀
@@ -115,13 +105,13 @@ module _ (rows finishes : List ℕ) where
     pub above : (a b : ℕ) → In a (take at list) → In b (drop at list) → F a < F b
     pub rest : Pairs (λ a b. F a ≤ F b) (drop at list)
 
-  pub part-none : (list : List ℕ) → Pairs (λ a b. F a ≤ F b) list → Parting list 0 list
-  part-none list p = record { within = omega arith; long = refl; same = refl; front = nil; above = λ a b m n. elim m [ ]; rest = p }
+  pub settle-none : (list : List ℕ) → Pairs (λ a b. F a ≤ F b) list → Settling list 0 list
+  settle-none list p = record { within = omega arith; long = refl; same = refl; front = nil; above = λ a b m n. elim m [ ]; rest = p }
 
-  pub part-end : (list₀ : List ℕ) (at : ℕ) (list : List ℕ) → length list ≤ at → Parting list₀ at list → list ≡ sort le list₀
-  part-end list₀ at list l g = sym (sort-sorted le (rw (take-all at list l) at (g .front))) ∙ g .same
+  pub settle-end : (list₀ : List ℕ) (at : ℕ) (list : List ℕ) → length list ≤ at → Settling list₀ at list → list ≡ sort le list₀
+  settle-end list₀ at list l g = sym (sort-sorted le (rw (take-all at list l) at (g .front))) ∙ g .same
 
-  module _ (list₀ : List ℕ) (at : ℕ) (list : List ℕ) (end : ℕ) (g : Parting list₀ at list) (r : Run finishes list at end) where
+  module _ (list₀ : List ℕ) (at : ℕ) (list : List ℕ) (end : ℕ) (g : Settling list₀ at list) (r : Tie finishes list at end) where
     abbrev A : List ℕ
     A = take at list
 
@@ -209,8 +199,8 @@ module _ (rows finishes : List ℕ) where
       kept : length after ≡ length list
       kept = omega (arith, length-append A (new ++ B), length-append new B, ap length is, sort-length le M, ap length all, length-append A (M ++ B), length-append M B)
 
-      pub part-more : Parting list₀ end after
-      part-more =
+      pub settle-more : Settling list₀ end after
+      settle-more =
           record {
             within = omega (arith, kept, r .inside);
             long = kept ∙ g .long;
@@ -229,3 +219,14 @@ module _ (rows finishes : List ℕ) where
           over : (a b : ℕ) → In a A ⊎ In a new → In b B → F a < F b
           over a b (inl m) n = g .above a b m (in-rest (Memᴰ·append-right M n))
           over a b (inr m) n = omega (arith, one a (in-run m), higher b n)
+
+    -- alone, a position stands as it shall
+    module _ (e : end ≡ at + 1) where
+      alone : (l : List ℕ) → length l ≡ 1 → l ≡ sort (rises rows) l
+      unfolding sort insert
+      alone [] q = absurd (omega arith)
+      alone (x ∷ []) q = refl
+      alone (x ∷ (y ∷ l)) q = absurd (omega arith)
+
+      pub settle-one : Settling list₀ end list
+      settle-one = rw all at (settle-more M (alone M (omega (arith, size))))
