@@ -74,7 +74,7 @@ module _ {t : List ℕ} {register : ℕ} {rows : List ℕ} (g : Listed t registe
       same (x ∷ l) = ap (λ (z : List ℕ). x ∷ z) (same l)
 
   module _ (writer : List ℕ) (e : writer ≡ map (writerOf t rows) rows) where
-    pub made-tied : Tied R writer
+    made-tied : Tied R writer
     unfolding isWrite
     made-tied = rw e (listed-tied g byRow (λ x. refl) (λ x. refl))
 
@@ -86,7 +86,7 @@ module _ {t : List ℕ} {register : ℕ} {rows : List ℕ} (g : Listed t registe
         omega (arith, ap (λ (o : Op). o .finish) (row-is j k), meets-ranked h m m (g .screened .spans _ m .0))
 
     module _ (start finish : List ℕ) (r : Ranked t rows h start finish) where
-      pub made-whole : Whole R writer finish
+      made-whole : Whole R writer finish
       made-whole = record { tied = made-tied; above = above; doubled = r .finishes ∙ sym (map-twice (λ o. 2 * o .finish) byRow rows) }
 
       columns-of : (shortened last prev : List ℕ) → ((o : List Op) → Whole o writer finish → shortened ≡ map (newFinish o) o) → Of (cols start shortened writer last prev) H

@@ -21,7 +21,7 @@ module _ (s e : Op → ℕ) where
   abbrev pub anew : Op → Op
   anew o = stamped (s o) (e o) o
 
-  pub anew-write : (x : Op) → isWrite (anew x) ≡ isWrite x
+  anew-write : (x : Op) → isWrite (anew x) ≡ isWrite x
   unfolding isWrite
   anew-write x = refl
 

@@ -138,10 +138,10 @@ module _ {h : List Op} where
     unfolding byStart
     sorted = by-key (λ x. x .start) (λ x y d. (λ e. d .0 (sym e), λ e. d .1 (sym e))) (pairs-both (g .rows) differ)
 
-    pub sorted-rising : Pairs (λ x y. x .start < y .start) (byStart h)
+    sorted-rising : Pairs (λ x y. x .start < y .start) (byStart h)
     sorted-rising = pairs-map sorted (λ x y m n d. omega (arith, d .0, d .1 .1))
 
-    pub sorted-proper : Proper (byStart h)
+    sorted-proper : Proper (byStart h)
     sorted-proper =
         record {
           rows = pairs-map sorted (λ x y m n d. d .1 .0);

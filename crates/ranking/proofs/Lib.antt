@@ -1,4 +1,4 @@
 -- The laws of the merging, and the columns of ranks.
-pub mod Ties
+pub mod ByFinish
 pub mod Merging
 pub mod Ranking

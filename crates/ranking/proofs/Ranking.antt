@@ -27,7 +27,7 @@ use Rattle.methods.specs.Ranks.{Event, starting, finishing, events, sooner, ran
 use Rattle.methods.specs.Prepared.{startsFirst, byStart}
 use Rattle.preparation.proofs.Ranks.{Lower, Sooner, meets-sooner, told-sooner, sooner-trans, never-sooner}
 use Rattle.ranking.specs.Ranked.{Fit, Stands, Standing, Stamps, finishesFirst, finishAt, Ready, Front, Merged, Ranked, RanksOf}
-use Rattle.ranking.proofs.Ties.{told-first, finishes-order}
+use Rattle.ranking.proofs.ByFinish.{told-first, finishes-order}
 
 -- where the first j of a list pass, and no others, j of them pass
 front-count : (q : ℕ → Bool) (l : List ℕ) (j : ℕ) → j ≤ length l → ((k : ℕ) → k < j → q (getD l k 0) ≡ true) →

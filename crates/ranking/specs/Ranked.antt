@@ -40,13 +40,6 @@ finishesFirst rows finishes a b = lower (getD finishes a 0) (getD finishes b 0) 
 abbrev pub finishAt : List ℕ → List ℕ → ℕ → ℕ
 finishAt finishes list k = getD finishes (getD list k 0) 0
 
--- the places from one to the end, and no further ones, have the finish of the first
-pub record Tie (finishes list : List ℕ) (from end : ℕ) : Type 0 where
-  pub some : from < end
-  pub inside : end ≤ length list
-  pub equal : (k : ℕ) → from ≤ k → k < end → finishAt finishes list k ≡ finishAt finishes list from
-  pub next : end < length list → finishAt finishes list end ≢ finishAt finishes list from
-
 -- starts that rise, and a list of all positions by rising finish; each start has a finish that is not below it
 pub record Ready (starts finishes list : List ℕ) : Type 0 where
   pub size-starts : length starts ≡ length list

@@ -2,12 +2,11 @@
 use history::Op;
 ghost use mathlib.Core.Path.{_≡_};
 ghost use Prim.Native.Nat.{_*_, _≤_, _<_};
-ghost use lib.ListN.{length, getD};
+ghost use lib.ListN.{length};
 ghost use Rattle.lists.specs.Lists.{upTo};
-ghost use Rattle.lists.specs.Pairs.{Pairs};
 ghost use Rattle.lists.specs.Sorts.{sort};
 ghost use Rattle.history.specs.Table.{largestCount};
-ghost use Rattle.ranking.specs.Ranked.{Fit, Standing, Stamps, finishesFirst, Tie, Ready, comesFirst, Merged, RanksOf};
+ghost use Rattle.ranking.specs.Ranked.{Fit, Standing, Stamps, finishesFirst, Ready, comesFirst, Merged, RanksOf};
 
 // The starts and the finishes of the rows.
 fn stamps_of(table: &[u64], rows: &[u64], starts: &mut [u64], finishes: &mut [u64])
@@ -24,43 +23,12 @@ fn stamps_of(table: &[u64], rows: &[u64], starts: &mut [u64], finishes: &mut [u6
     }
 }
 
-// Where the positions that have one finish end, from a place of the list on.
-fn tie_end(finishes: &[u64], list: &[u64], from: usize) -> usize
-    requires { ⌜ from < length (now list) ⌝ }
-    ensures { λ r. ⌜ Tie (now (finishes .entry)) (now (list .entry)) from r ⌝ }
-{
-    let finish = sorting::key(finishes, list[from]);
-    let mut end = from + 1;
-    while end < list.len() {
-        if sorting::key(finishes, list[end]) != finish {
-            return end;
-        }
-        end += 1;
-    }
-    end
-}
-
-// Puts positions by rising finish into the sequence of their ranks: those that have one finish by row.
-fn by_row(rows: &[u64], finishes: &[u64], list: &mut [u64])
-    requires { ⌜ Pairs (λ a b. getD (now finishes) a 0 ≤ getD (now finishes) b 0) (now list) ⌝ }
-    ensures { λ _. ⌜ now (list .exit) ≡ sort (finishesFirst (now (rows .entry)) (now (finishes .entry))) (now (list .entry)) ⌝ }
-{
-    let mut at: usize = 0;
-    while at < list.len() {
-        let end = tie_end(finishes, list, at);
-        if at + 1 < end {
-            sorting::sort_by(rows, &mut list[at..end]);
-        }
-        at = end;
-    }
-}
-
-// The positions by rising finish; those that have one finish by row.
+// The positions by rising finish; those that have one finish by row, in which sequence they are put first, as the sort is stable.
 fn by_finish(rows: &[u64], finishes: &[u64], list: &mut [u64])
     ensures { λ _. ⌜ now (list .exit) ≡ sort (finishesFirst (now (rows .entry)) (now (finishes .entry))) (upTo (length (now (list .entry)))) ⌝ }
 {
-    sorting::places_by(finishes, list);
-    by_row(rows, finishes, list);
+    sorting::places_by(rows, list);
+    sorting::sort_by(finishes, list);
 }
 
 // Whether there is a start at i, not above the finish: at an equal stamp starts come before finishes.

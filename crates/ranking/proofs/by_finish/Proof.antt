@@ -1,19 +1,17 @@
--- The positions by rising finish, and then those that have one finish by row (`sort-twice`).
+-- The positions by row, and then by rising finish (`sort-both`).
 use mathlib.Core.Path.{ap, _∙_}
-use lib.ListN.{length}
-use Rattle.lists.specs.Lists.{upTo}
-use Rattle.lists.specs.Sorts.{sort}
-use Rattle.ranking.specs.Ranked.{finishesFirst}
-use Rattle.ranking.proofs.Ties.{finishes-rise, sort-twice}
 use borrow.Author.Needs.{needs}
+use Rattle.lists.specs.Sorts.{sort}
+use Rattle.sorting.specs.Keys.{rises}
+use Rattle.ranking.proofs.ByFinish.{sort-both}
 use Rattle.ranking.proofs.by_finish.Statement.{statement}
 use Rattle.ranking.proofs.by_finish.Tie as tie
 
 places-by-requires : tie.Need-places-by-requires
 places-by-requires c κs = search needs
 
-by-row-requires : tie.Need-by-row-requires
-by-row-requires c κs = finishes-rise (c .before .before .before .before .before .before .before .before .args .finishes .now) (upTo (length (c .before .before .before .before .before .before .before .before .args .list .now))) _ (c .before .before .before .places-by .ensures)
+sort-by-requires : tie.Need-sort-by-requires
+sort-by-requires c κs = search needs
 
 same-length : tie.Need-same-length
 same-length c = search needs
@@ -21,7 +19,7 @@ same-length c = search needs
 returns : tie.Need-returns
 returns c =
     let a = c .before .before .before .before .before .before .before .before .before .before .before .args in
-    c .before .before .by-row .ensures ∙ ap (sort (finishesFirst (a .rows .now) (a .finishes .now))) (c .before .before .before .before .before .before .places-by .ensures) ∙ sort-twice (a .rows .now) (a .finishes .now) _
+    c .before .before .sort-by .ensures ∙ ap (sort (rises (a .finishes .now))) (c .before .before .before .before .before .before .places-by .ensures) ∙ sort-both (a .rows .now) (a .finishes .now) _
 
 pub by-finish-spec : {M : Type 1} → statement M
-by-finish-spec = tie.close (tie.spec places-by-requires by-row-requires same-length returns)
+by-finish-spec = tie.close (tie.spec places-by-requires sort-by-requires same-length returns)
