@@ -26,7 +26,7 @@ use Rattle.history.specs.Table.{largestCount, opAt}
 use Rattle.methods.specs.Ranks.{Event, starting, finishing, events, sooner, rank}
 use Rattle.methods.specs.Prepared.{startsFirst, byStart}
 use Rattle.preparation.proofs.Ranks.{Lower, Sooner, meets-sooner, told-sooner, sooner-trans, never-sooner}
-use Rattle.ranking.specs.Ranked.{Fit, Stands, Standing, Stamps, finishesFirst, finishAt, Ready, Front, Merged, Ranked, RanksOf}
+use Rattle.ranking.specs.Ranked.{Fit, Stands, Standing, Stamps, RowsDiffer, finishesFirst, finishAt, Ready, Front, Merged, Ranked, RanksOf}
 use Rattle.ranking.proofs.ByFinish.{told-first, finishes-order}
 
 -- where the first j of a list pass, and no others, j of them pass
@@ -88,6 +88,11 @@ module _ (t rows : List ℕ) (h : List Op) (g : Stands t rows h) where
   apart =
       image-pairs {R = λ x y. x .row ≢ y .row} f (upTo n)
       (rw stands (sort-apart startsFirst (λ x y. x .row ≢ y .row) (λ x y d e. d (sym e)) (pairs-map (g .rise) (λ x y m k l e. omega arith))))
+
+  differ : RowsDiffer rows
+  differ a b l m e =
+      rw (up a (omega arith), up b m) at (pairs-at {R = λ a b. f a .row ≢ f b .row} 0 apart a b l (omega (arith, from-length 0 n)))
+      (row-of a ∙ e ∙ sym (row-of b))
 
   module _ (starts finishes : List ℕ) (s : Stamps t rows starts finishes) where
     -- the positions by finish, then by row
@@ -251,6 +256,9 @@ module _ (t rows : List ℕ) (h : List Op) (g : Stands t rows h) where
             rw (← e) (d ∙ ap (λ k. 2 * k) (sym (finish-rank b j (omega (arith, long)) (rw long at c))))
 
 -- THE CALLS, one after the other
+pub rows-differ : (t rows : List ℕ) → Standing t rows → RowsDiffer rows
+rows-differ t rows (h, g) = differ t rows h g
+
 module _ (t rows starts finishes list₀ list : List ℕ) (s : Stamps t rows starts finishes) (size : length list₀ ≡ length rows)
     (e : list ≡ sort (finishesFirst rows finishes) (upTo (length list₀))) where
   list-is : list ≡ sort (finishesFirst rows finishes) (upTo (length rows))

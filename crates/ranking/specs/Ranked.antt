@@ -32,6 +32,10 @@ pub record Stamps (t rows starts finishes : List ℕ) : Type 0 where
   pub begin : starts ≡ map (λ x. opAt t x .start) rows
   pub end : finishes ≡ map (λ x. opAt t x .finish) rows
 
+-- no two positions have one row
+abbrev pub RowsDiffer : List ℕ → Type 0
+RowsDiffer rows = (a b : ℕ) → a < b → b < length rows → getD rows a 0 ≢ getD rows b 0
+
 -- a goes before b: its finish is below, or they are equal and its row is no higher (02, W-203)
 abbrev pub finishesFirst : List ℕ → List ℕ → ℕ → ℕ → Bool
 finishesFirst rows finishes a b = lower (getD finishes a 0) (getD finishes b 0) (leb (getD rows a 0) (getD rows b 0))

@@ -1,12 +1,14 @@
 // The doubled ranks of a register's stamps, from its rows by rising start: the finishes are sorted, and merged with the starts.
 use history::Op;
 ghost use mathlib.Core.Path.{_≡_};
+ghost use mathlib.Core.Bool.{true};
 ghost use Prim.Native.Nat.{_*_, _≤_, _<_};
 ghost use lib.ListN.{length};
 ghost use Rattle.lists.specs.Lists.{upTo};
 ghost use Rattle.lists.specs.Sorts.{sort};
+ghost use Rattle.sorting.specs.Keys.{rises};
 ghost use Rattle.history.specs.Table.{largestCount};
-ghost use Rattle.ranking.specs.Ranked.{Fit, Standing, Stamps, finishesFirst, Ready, comesFirst, Merged, RanksOf};
+ghost use Rattle.ranking.specs.Ranked.{Fit, Standing, Stamps, RowsDiffer, finishesFirst, Ready, comesFirst, Merged, RanksOf};
 
 // The starts and the finishes of the rows.
 fn stamps_of(table: &[u64], rows: &[u64], starts: &mut [u64], finishes: &mut [u64])
@@ -23,11 +25,44 @@ fn stamps_of(table: &[u64], rows: &[u64], starts: &mut [u64], finishes: &mut [u6
     }
 }
 
+// Puts each position at the place of its row, unless a row is not below their count: whether all have their place.
+fn place(rows: &[u64], list: &mut [u64]) -> bool
+    requires { ⌜ length (now list) ≡ length (now rows) ⌝ }
+    requires { ⌜ RowsDiffer (now rows) ⌝ }
+    ensures { λ r. ⌜ (r ≡ true → now (list .exit) ≡ sort (rises (now (rows .entry))) (upTo (length (now (rows .entry))))) ⌝ }
+{
+    let n = list.len();
+    let mut i: usize = 0;
+    while i < rows.len() {
+        let row = rows[i] as usize;
+        if n <= row {
+            return false;
+        }
+        list[row] = i as u64;
+        i += 1;
+    }
+    true
+}
+
+// The positions by row: at once, where the rows are the numbers below their count, as in a table that has no other register.
+fn by_row(rows: &[u64], list: &mut [u64])
+    requires { ⌜ length (now list) ≡ length (now rows) ⌝ }
+    requires { ⌜ RowsDiffer (now rows) ⌝ }
+    ensures { λ _. ⌜ now (list .exit) ≡ sort (rises (now (rows .entry))) (upTo (length (now (list .entry)))) ⌝ }
+{
+    if place(rows, list) {
+        return;
+    }
+    sorting::places_by(rows, list);
+}
+
 // The positions by rising finish; those that have one finish by row, in which sequence they are put first, as the sort is stable.
 fn by_finish(rows: &[u64], finishes: &[u64], list: &mut [u64])
+    requires { ⌜ length (now list) ≡ length (now rows) ⌝ }
+    requires { ⌜ RowsDiffer (now rows) ⌝ }
     ensures { λ _. ⌜ now (list .exit) ≡ sort (finishesFirst (now (rows .entry)) (now (finishes .entry))) (upTo (length (now (list .entry)))) ⌝ }
 {
-    sorting::places_by(rows, list);
+    by_row(rows, list);
     sorting::sort_by(finishes, list);
 }
 

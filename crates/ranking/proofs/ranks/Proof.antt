@@ -1,5 +1,5 @@
 -- What each call leaves is what the next one takes.
-use Rattle.ranking.proofs.Ranking.{merge-takes, ranks-end}
+use Rattle.ranking.proofs.Ranking.{rows-differ, merge-takes, ranks-end}
 use borrow.Author.Needs.{needs}
 use Rattle.ranking.proofs.ranks.Statement.{statement}
 use Rattle.ranking.proofs.ranks.Tie as tie
@@ -8,7 +8,9 @@ stamps-of-requires : tie.Need-stamps-of-requires
 stamps-of-requires c κs = search needs
 
 by-finish-requires : tie.Need-by-finish-requires
-by-finish-requires c κs = search needs
+by-finish-requires c κs =
+    let a = c .before .before .before .before .before .before .before .before .before .before .before .before .before .before in
+    (a .pre .1 .1 .0, rows-differ (a .args .table .now) (a .args .rows .now) (a .pre .1 .1 .1 .1))
 
 merge-requires : tie.Need-merge-requires
 merge-requires c κs =
