@@ -2,6 +2,9 @@
 
 use crate::codes::{FRESH, SHORT_LIST};
 
+/// The numbers of an answer.
+pub const FIELDS: usize = 4;
+
 #[derive(Clone, Copy, Debug, Default, PartialEq)]
 pub struct Answer {
     pub code: u64,
@@ -21,7 +24,7 @@ impl Answer {
         Answer { code: FRESH, rows, ..Answer::default() }
     }
 
-    pub fn numbers(self) -> [u64; 4] {
+    pub fn numbers(self) -> [u64; FIELDS] {
         [self.code, self.row, self.rows, self.trials]
     }
 }

@@ -1,9 +1,10 @@
 //! The library's calls on tables, lists and buffers, in plain Rust, each by the name that it has in `differ`.
 
-use crate::answer::{put, Answer};
+use crate::answer::{put, Answer, FIELDS};
 use crate::codes::{FRESH, SHORT_LIST, SPENT, STALE};
 use crate::file::{push_record, table_of, MOST_ROWS};
 use crate::log;
+use crate::register::Register;
 use crate::screening::screened;
 use crate::table::{self, row, whole, COLUMNS};
 use crate::text;
@@ -24,23 +25,49 @@ fn marked(table: &[u64], register: u64, question: u64, allowance: u64, list: &mu
     if list.len() < rows.len() {
         return Err(Answer::refused(SHORT_LIST, 0));
     }
-    let (found, trials) = search(&register, question, allowance);
-    let decided = |code| Answer { code, row: 0, rows: rows.len() as u64, trials };
-    Ok(match found {
-        Found::Order(order) => {
-            for (place, at) in list.iter_mut().zip(order) {
-                *place = u64::from(register.ops[at as usize].row);
-            }
-            decided(FRESH)
+    let (found, answer) = decided(&register, question, allowance);
+    if let Found::Order(order) = found {
+        for (place, at) in list.iter_mut().zip(order) {
+            *place = u64::from(register.ops[at as usize].row);
         }
-        Found::Nothing => decided(STALE),
+    }
+    Ok(answer)
+}
+
+/// What is found in a screened register, and the answer that says so.
+fn decided(register: &Register, question: u64, allowance: u64) -> (Found, Answer) {
+    let (found, trials) = search(register, question, allowance);
+    let rows = register.ops.len() as u64;
+    let answer = match found {
+        Found::Order(_) => Answer { code: FRESH, row: 0, rows, trials },
+        Found::Nothing => Answer { code: STALE, row: 0, rows, trials },
         Found::Spent => Answer { code: SPENT, trials: allowance, ..Answer::default() },
-    })
+    };
+    (found, answer)
 }
 
 /// The marking call with a list inside.
 pub fn answer(table: &[u64], register: u64, question: u64, allowance: u64) -> Answer {
     mark(table, register, question, allowance, &mut [0; MOST_ROWS])
+}
+
+/// Four numbers a listed register: those of the marking call's answer, with the whole allowance and a list that is long enough.
+pub fn answers(table: &[u64], registers: &[u64], question: u64, allowance: u64, list: &mut [u64]) -> Answer {
+    either(listed(table, registers, question, allowance, list))
+}
+
+fn listed(table: &[u64], registers: &[u64], question: u64, allowance: u64, list: &mut [u64]) -> Result<Answer, Answer> {
+    table::tested(table, is_question(question))?;
+    if list.len() < FIELDS * registers.len() {
+        return Err(Answer::refused(SHORT_LIST, 0));
+    }
+    let by_register = table::by_register(table);
+    for (numbers, &register) in list.chunks_exact_mut(FIELDS).zip(registers) {
+        let rows = table::rows_among(table, &by_register, register);
+        let answer = rows.and_then(|rows| screened(&rows).map(|register| decided(&register, question, allowance).1));
+        numbers.copy_from_slice(&either(answer).numbers());
+    }
+    Ok(Answer::default())
 }
 
 pub fn check(table: &[u64], register: u64, k: u64, list: &[u64]) -> Answer {

@@ -34,6 +34,30 @@ pub fn rows(random: &mut Random) -> Vec<(u64, Row)> {
         let share = (count as u64 * (register + 1) / registers - count as u64 * register / registers) as usize;
         rows.extend(history(share, random).into_iter().map(|row| (first.wrapping_add(register), row)));
     }
+    mixed(rows, random)
+}
+
+/// The rows of a road: registers with sizes of their own and numbers in steps of any size, up to as many rows as can be; now and then a register
+/// for nearly every row.
+pub fn road(random: &mut Random) -> Vec<(u64, Row)> {
+    let (registers, tiny) = match random.below(100) {
+        0 => (MOST_ROWS as u64, true),
+        1..=9 => (60, false),
+        _ => (random.below(12), false),
+    };
+    let first = [0, random.below(10), random.next(), u64::MAX][random.below(4) as usize];
+    let step = [1, 1 << random.below(64), u64::MAX, random.next()][random.below(4) as usize];
+    let mut rows = Vec::new();
+    for register in 0..registers {
+        let share = if tiny { random.below(3) as usize } else { size(random) }.min(MOST_ROWS - rows.len());
+        let number = first.wrapping_add(step.wrapping_mul(register));
+        rows.extend(history(share, random).into_iter().map(|row| (number, row)));
+    }
+    mixed(rows, random)
+}
+
+/// The rows in any sequence, by start, or as they are.
+fn mixed(mut rows: Vec<(u64, Row)>, random: &mut Random) -> Vec<(u64, Row)> {
     match random.below(3) {
         0 => random.shuffle(&mut rows),
         1 => rows.sort_by_key(|(_, row)| row.start),

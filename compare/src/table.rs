@@ -26,14 +26,34 @@ pub fn row(number: u32, cells: &[u64]) -> Result<Row, Answer> {
     Ok(Row { number, write, value: cells[2], start: cells[3], finish: cells[4] })
 }
 
-/// The rows of a register, or the first of tests 1 to 4 whose condition is met; `asked` tells that of test 3.
-pub fn rows_of(table: &[u64], register: u64, asked: bool) -> Result<Vec<Row>, Answer> {
+/// Tests 1 to 3; `asked` tells the condition of test 3.
+pub fn tested(table: &[u64], asked: bool) -> Result<(), Answer> {
     whole(table)?;
     if !asked {
         return Err(Answer::refused(NO_SUCH_QUESTION, 0));
     }
+    Ok(())
+}
+
+/// The rows of a register, or the first of tests 1 to 4 whose condition is met.
+pub fn rows_of(table: &[u64], register: u64, asked: bool) -> Result<Vec<Row>, Answer> {
+    tested(table, asked)?;
     let rows = (0..).zip(table.chunks(COLUMNS));
     rows.filter(|(_, cells)| cells[0] == register).map(|(number, cells)| row(number, cells)).collect()
+}
+
+/// The rows' registers and numbers, by register and then by number.
+pub fn by_register(table: &[u64]) -> Vec<(u64, u32)> {
+    let mut rows: Vec<(u64, u32)> = table.chunks(COLUMNS).map(|cells| cells[0]).zip(0..).collect();
+    rows.sort_by_key(|&(register, _)| register);
+    rows
+}
+
+/// The rows of a register, out of all of them by register; or test 4.
+pub fn rows_among(table: &[u64], by_register: &[(u64, u32)], register: u64) -> Result<Vec<Row>, Answer> {
+    let first = by_register.partition_point(|&(its, _)| its < register);
+    let rows = by_register[first..].iter().take_while(|&&(its, _)| its == register);
+    rows.map(|&(_, number)| row(number, &table[number as usize * COLUMNS..][..COLUMNS])).collect()
 }
 
 /// The registers that the rows bear, ascending.

@@ -10,9 +10,21 @@ fn cells(register: u64, row: &Row) -> [u64; COLUMNS] {
     [register, u64::from(if row.write { WRITE } else { READ }), row.value, row.start, row.finish]
 }
 
-/// A table; one in four is changed up to three times.
+/// A table of one register, a few, or sixty.
 pub fn table(random: &mut Random) -> Vec<u64> {
-    let mut table: Vec<u64> = shapes::rows(random).iter().flat_map(|(register, row)| cells(*register, row)).collect();
+    let rows = shapes::rows(random);
+    changed(&rows, random)
+}
+
+/// A table of many registers.
+pub fn road(random: &mut Random) -> Vec<u64> {
+    let rows = shapes::road(random);
+    changed(&rows, random)
+}
+
+/// The table of these rows; one in four is changed up to three times.
+fn changed(rows: &[(u64, Row)], random: &mut Random) -> Vec<u64> {
+    let mut table: Vec<u64> = rows.iter().flat_map(|(register, row)| cells(*register, row)).collect();
     if random.one_in(4) {
         for _ in 0..1 + random.below(3) {
             change(&mut table, random);

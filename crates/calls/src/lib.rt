@@ -13,6 +13,7 @@ ghost use Rattle.marks.specs.Marks.{answerTo};
 ghost use Rattle.files.specs.Files.{readAnswer, readTable, writeAnswer, writeBytes};
 ghost use Rattle.log_tables.specs.Logs.{loadAnswer, loadTable};
 ghost use Rattle.selection.specs.Selected.{selectAnswer, selectTable};
+ghost use Rattle.roads.specs.Answers.{answersAnswer, answersList};
 ghost use Rattle.summary.specs.Summary.{summaryAnswer, summaryList};
 ghost use Rattle.printing.specs.Texts.{textAfter, refusedLine};
 ghost use Rattle.printing.specs.Files.{fileText};
@@ -95,6 +96,21 @@ pub extern "C" fn calls_write(table: &[u64], bytes: &mut [u8], to: &mut [u64])
     ensures { λ _. ⌜ Says (writeAnswer (now (table .entry)) (now (bytes .entry))) (now (to .entry)) (now (to .exit)) ⌝ }
 {
     files::write(table, bytes).write(to);
+}
+
+#[no_mangle]
+pub extern "C" fn calls_answers(
+    table: &[u64],
+    registers: &[u64],
+    question: u64,
+    allowance: u64,
+    list: &mut [u64],
+    to: &mut [u64],
+)
+    ensures { λ _. ⌜ now (list .exit) ≡ answersList (now (table .entry)) (now (registers .entry)) question allowance (now (list .entry)) ⌝ }
+    ensures { λ _. ⌜ Says (answersAnswer (now (table .entry)) (now (registers .entry)) question (now (list .entry))) (now (to .entry)) (now (to .exit)) ⌝ }
+{
+    roads::answers(table, registers, question, allowance, list).write(to);
 }
 
 #[no_mangle]

@@ -5,3 +5,4 @@ pub mod Chained
 pub mod Listed
 pub mod Made
 pub mod Sorted
+pub mod Keying

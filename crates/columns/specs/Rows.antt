@@ -2,12 +2,16 @@
 -- Assumes nothing.
 use Prim.Native.Nat.{ℕ}
 use mathlib.Core.Path.{_≡_}
-use mathlib.Core.List.{List}
-use lib.ListN.{length}
-use Rattle.history.specs.Table.{history}
+use mathlib.Core.List.{List, List·Memᴰ as In}
+use lib.ListN.{length, getD}
+use Rattle.history.specs.Table.{opAt, history}
 use Rattle.history.specs.Screen.{Screened}
 use Rattle.methods.specs.Prepared.{byStart}
 use Rattle.methods.specs.Mark.{rowNumbers}
+
+-- the start of each of the rows stands at the place of its row
+pub record Keyed (t rows keys : List ℕ) : Type 0 where
+  pub keyed : (x : ℕ) → In x rows → getD keys x 0 ≡ opAt t x .start
 
 -- the rows of a screened register, by rising start
 pub record Listed (t : List ℕ) (register : ℕ) (rows : List ℕ) : Type 0 where

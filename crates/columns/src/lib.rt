@@ -11,7 +11,8 @@ ghost use Rattle.methods.specs.Prepared.{byStart, newFinish};
 ghost use Rattle.methods.specs.Mark.{rowNumbers, written};
 ghost use Rattle.positions.specs.Columns.{cols, isOwn, Linked};
 ghost use Rattle.columns.specs.Gathered.{Gathered};
-ghost use Rattle.columns.specs.Rows.{Listed};
+ghost use Rattle.writers.specs.Writers.{Within};
+ghost use Rattle.columns.specs.Rows.{Keyed, Listed};
 ghost use Rattle.columns.specs.Finishes.{lowered, Whole};
 ghost use Rattle.columns.specs.Made.{Room, Made};
 ghost use Rattle.columns.specs.Falls.{fallingOf, Turned};
@@ -73,6 +74,30 @@ pub fn rows_by_start(table: &[u64], register: u64, rows: &mut [u64]) -> usize
     }
     let mut keys = [0u64; Row::LARGEST_COUNT];
     rows_with(table, register, &mut keys, rows)
+}
+
+// The start of each of the rows, at the place of its row.
+fn starts_of(table: &[u64], rows: &[u64], keys: &mut [u64])
+    requires { ⌜ Within (now table) (now rows) ⌝ }
+    requires { ⌜ rowCount (now table) ≤ length (now keys) ⌝ }
+    ensures { λ _. ⌜ Keyed (now (table .entry)) (now (rows .entry)) (now (keys .exit)) ⌝ }
+{
+    let mut i: usize = 0;
+    while i < rows.len() {
+        let row = rows[i] as usize;
+        keys[row] = Op::at(table, row).start;
+        i += 1;
+    }
+}
+
+// Puts given rows by rising start, those with one start in their sequence, with a place for the start of each row of the table.
+pub fn sort_rows(table: &[u64], keys: &mut [u64], rows: &mut [u64])
+    requires { ⌜ Within (now table) (now rows) ⌝ }
+    requires { ⌜ rowCount (now table) ≤ length (now keys) ⌝ }
+    ensures { λ _. ⌜ now (rows .exit) ≡ rowNumbers (byStart (map (opAt (now (table .entry))) (now (rows .entry)))) ⌝ }
+{
+    starts_of(table, rows, keys);
+    sorting::sort_by(keys, rows);
 }
 
 // A write's finish after one of its reads: one below the read's, where that is lower.

@@ -32,7 +32,7 @@ const FEW: usize = 32;
 const SOME: usize = 256;
 
 // Whether there is no such question.
-fn unasked(question: u64) -> bool
+pub fn unasked(question: u64) -> bool
     ensures { λ r. ⌜ r ≡ noQuestion question ⌝ }
 {
     if question == ZONES {
@@ -212,6 +212,30 @@ fn mark_many(table: &[u64], rows: &[u64], question: u64, allowance: u64, list: &
     )
 }
 
+// The mark of a screened register, from its rows by rising start.
+pub fn mark_rows(
+    table: &[u64],
+    rows: &[u64],
+    question: u64,
+    allowance: u64,
+    list: &mut [u64],
+) -> Answer
+    requires { ⌜ ((register : ℕ) × Listed (now table) register (now rows)) ⌝ }
+    requires { ⌜ length (now rows) ≤ largestCount ⌝ }
+    requires { ⌜ length (now rows) ≤ length (now list) ⌝ }
+    requires { ⌜ Asked question ⌝ }
+    ensures { λ r. ⌜ OfRows (now (table .entry)) (now (rows .entry)) question allowance (now (list .entry)) (outcome r (now (list .exit))) ⌝ }
+{
+    let n = rows.len();
+    if n <= FEW {
+        return mark_few(table, rows, question, allowance, list);
+    }
+    if n <= SOME {
+        return mark_some(table, rows, question, allowance, list);
+    }
+    mark_many(table, rows, question, allowance, list)
+}
+
 // The mark of a register that passes tests 1 to 10, with a place for each row of the table.
 fn marked_with(
     table: &[u64],
@@ -226,13 +250,7 @@ fn marked_with(
     ensures { λ r. ⌜ outcome r (now (list .exit)) ≡ judgedBy (now (table .entry)) register question allowance (now (list .entry)) ⌝ }
 {
     let n = columns::rows_by_start(table, register, rows);
-    if n <= FEW {
-        return mark_few(table, &rows[..n], question, allowance, list);
-    }
-    if n <= SOME {
-        return mark_some(table, &rows[..n], question, allowance, list);
-    }
-    mark_many(table, &rows[..n], question, allowance, list)
+    mark_rows(table, &rows[..n], question, allowance, list)
 }
 
 // The mark of a register that passes tests 1 to 10.

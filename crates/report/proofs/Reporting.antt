@@ -17,11 +17,11 @@ use Rattle.history.proofs.Refusals.{NoFault, code-no-fault, if-so}
 use Rattle.methods.specs.Mark.{written}
 use Rattle.text.specs.Decimal.{linesOf}
 use Rattle.text.proofs.Joins.{lines-length}
-use Rattle.summary.specs.Registers.{registers}
+use Rattle.grouping.specs.Registers.{registers}
 use Rattle.summary.specs.Summary.{summaryOf, summaryTests, summaryAnswer, summaryList}
 use Rattle.summary.proofs.Answering.{summary-long}
 use Rattle.summary.proofs.Telling.{tests-coded, summary-passed, summary-written}
-use Rattle.summary.proofs.Ascending.{registers-few}
+use Rattle.grouping.proofs.Ascending.{registers-few}
 use Rattle.printing.specs.Texts.{textAnswer, textAfter, Printed}
 use Rattle.report.specs.Report.{header, reportOf, reportTests, reportAnswer, reportAfter}
 

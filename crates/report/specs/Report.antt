@@ -9,7 +9,7 @@ use Rattle.history.specs.declared.Answer.{Answer}
 use Rattle.history.specs.Table.{largestCount, rowCount}
 use Rattle.history.specs.Answer.{number, fresh, ragged, overfull, Test, test, ifSo, firstMet, passed}
 use Rattle.text.specs.Decimal.{linesOf}
-use Rattle.summary.specs.Registers.{registers}
+use Rattle.grouping.specs.Registers.{registers}
 use Rattle.summary.specs.Summary.{summaryOf}
 use Rattle.printing.specs.Texts.{textAnswer, textAfter}
 

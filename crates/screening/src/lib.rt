@@ -105,6 +105,21 @@ fn examine_many(table: &[u64], rows: &[u64]) -> Answer
     examine_rows(table, rows, &mut writer[..n])
 }
 
+// Tests 4 to 9 of rows of the table, rising.
+pub fn examine_listed(table: &[u64], rows: &[u64]) -> Answer
+    requires { ⌜ Listed (now table) (now rows) ⌝ }
+    ensures { λ r. ⌜ r ≡ firstMet (rowTests (map (opAt (now (table .entry))) (now (rows .entry)))) (passed (length (now (rows .entry)))) ⌝ }
+{
+    let n = rows.len();
+    if n <= FEW {
+        return examine_few(table, rows);
+    }
+    if n <= SOME {
+        return examine_some(table, rows);
+    }
+    examine_many(table, rows)
+}
+
 // Tests 4 to 9 of a register, with a place for each row of the table.
 fn examine_gathered(table: &[u64], register: u64, rows: &mut [u64]) -> Answer
     requires { ⌜ rowCount (now table) ≤ largestCount ⌝ }
@@ -112,13 +127,7 @@ fn examine_gathered(table: &[u64], register: u64, rows: &mut [u64]) -> Answer
     ensures { λ r. ⌜ r ≡ firstMet (rowTests (history (now (table .entry)) register)) (passed (length (history (now (table .entry)) register))) ⌝ }
 {
     let n = gather(table, register, rows);
-    if n <= FEW {
-        return examine_few(table, &rows[..n]);
-    }
-    if n <= SOME {
-        return examine_some(table, &rows[..n]);
-    }
-    examine_many(table, &rows[..n])
+    examine_listed(table, &rows[..n])
 }
 
 // Tests 4 to 9 of a register.

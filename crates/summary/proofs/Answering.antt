@@ -1,40 +1,20 @@
 -- The answer and the list, for each way through the call.
 -- Assumes nothing.
-use Prim.Native.Nat.{ℕ, _+_, _*_, _%_, _≤_, _<_}
+use Prim.Native.Nat.{ℕ, _*_, _%_, _≤_, _<_}
 use mathlib.Core.Path.{_≡_, refl, sym, ap, _∙_}
 use mathlib.Core.Logic.{_≢_}
-use mathlib.Core.List.{List, _++_, flatMap}
+use mathlib.Core.List.{List, flatMap}
 use native.Mathlib.Omega.{arith}
-use lib.ListN.{length, take, length-take, length-append}
-use lib.Seq.{take-append-le}
+use lib.ListN.{length}
 use borrow.Author.Tests.{eq-eqb, ne-eqb, lt-ltb, le-ltb}
 use Rattle.history.specs.declared.Answer.{Answer}
 use Rattle.history.specs.Table.{largestCount, rowCount}
 use Rattle.history.specs.Answer.{ragged, overfull, short-list, refused, firstMet, passed}
 use Rattle.methods.specs.Mark.{written}
-use Rattle.summary.specs.Registers.{registers}
+use Rattle.grouping.specs.Registers.{registers}
+use Rattle.grouping.proofs.Entries.{flat-long}
 use Rattle.summary.specs.Summary.{entry, summaryOf, summaryTests, summaryAnswer, summaryList}
-use Rattle.summary.proofs.Entries.{flat-long, entry-long}
-
--- m numbers at the front of a part of an array
-pub front-within : (m : ℕ) (part numbers : List ℕ) → m ≡ length numbers → take m part ≡ numbers → m ≤ length part
-front-within m part numbers count front = omega (arith, count, ap length front, length-take m part)
-
-module _ (m : ℕ) (part rest numbers : List ℕ) (count : m ≡ length numbers) (front : take m part ≡ numbers) where
-  within : m ≤ length part
-  within = front-within m part numbers count front
-
-  pub front-is : take m (part ++ rest) ≡ numbers
-  front-is = take-append-le m part rest within ∙ front
-
-  pub front-inside : m ≤ length (part ++ rest)
-  front-inside = omega (arith, within, length-append part rest)
-
-  pub front-long : m ≡ length (take m (part ++ rest))
-  front-long = count ∙ ap length (sym front-is)
-
-  pub front-room : (room : ℕ) → m * 5 ≤ room → length (take m (part ++ rest)) * 5 ≤ room
-  front-room room h = omega (arith, h, front-long)
+use Rattle.summary.proofs.Entries.{entry-long}
 
 module _ (t list : List ℕ) where
   -- five numbers a register

@@ -1,7 +1,4 @@
--- The laws of the registers of a table, and of the loops.
-pub mod Runs
-pub mod Columns
+-- The laws of the numbers of the report, and of the loop that writes them.
 pub mod Entries
 pub mod Answering
 pub mod Telling
-pub mod Ascending

@@ -1,37 +1,20 @@
 -- What the numbers of each entry say: a mark of the entry's register.
 -- Assumes nothing.
-use Prim.Native.Nat.{ℕ, zero, suc, _+_, _*_, _<_}
+use Prim.Native.Nat.{ℕ, _+_, _*_, _<_}
 use mathlib.Core.Path.{_≡_, refl, sym, ap, _∙_}
-use mathlib.Core.List.{List, [], _∷_, _++_, flatMap, append-assoc}
+use mathlib.Core.List.{List, flatMap}
 use native.Mathlib.Omega.{arith}
-use lib.ListN.{length, getD, drop, List·getD-append}
-use lib.Seq.{getD-append-add}
+use lib.ListN.{length, getD, drop}
 use borrow.Author.Tests.{eq-eqb}
 use Rattle.history.specs.declared.Answer.{Answer}
 use Rattle.history.specs.Answer.{passed}
 use Rattle.history.proofs.Refusals.{Coded, code-no-fault, no-fault-answer}
 use Rattle.methods.specs.Mark.{written}
 use Rattle.marks.proofs.Saying.{answer-said}
-use Rattle.summary.specs.Registers.{registers}
+use Rattle.grouping.specs.Registers.{registers}
+use Rattle.grouping.proofs.Entries.{flat-at}
 use Rattle.summary.specs.Summary.{entry, summaryOf, summaryTests, summaryAnswer, summaryList, Meant, Tells}
 use Rattle.summary.proofs.Entries.{entry-long}
-
--- number j of the w numbers that element i gives
-flat-at : (f : ℕ → List ℕ) (w : ℕ) → ((x : ℕ) → length (f x) ≡ w) → (l rest : List ℕ) (i j : ℕ) → i < length l → j < w →
-    getD (flatMap f l ++ rest) (i * w + j) 0 ≡ getD (f (getD l i 0)) j 0
-unfolding flatMap
-flat-at f w h [] rest i j a b = absurd (omega arith)
-flat-at f w h (x ∷ l) rest zero j a b =
-    let e : 0 * w + j ≡ j = omega arith in
-    ap (λ (k : ℕ). getD (f x ++ flatMap f l ++ rest) k 0) e
-    ∙ ap (λ (m : List ℕ). getD m j 0) (append-assoc (f x) (flatMap f l) rest)
-    ∙ List·getD-append (f x) (flatMap f l ++ rest) 0 j (omega (arith, h x))
-flat-at f w h (x ∷ l) rest (suc i) j a b =
-    let e : suc i * w + j ≡ length (f x) + (i * w + j) = omega (arith, h x) in
-    ap (λ (k : ℕ). getD (f x ++ flatMap f l ++ rest) k 0) e
-    ∙ ap (λ (m : List ℕ). getD m (length (f x) + (i * w + j)) 0) (append-assoc (f x) (flatMap f l) rest)
-    ∙ getD-append-add (f x) (flatMap f l ++ rest) (i * w + j) 0
-    ∙ flat-at f w h l rest i j (omega arith) b
 
 -- what the marks of a register say: neither question counts trials
 pub meant : (t : List ℕ) (register : ℕ) → Meant t register

@@ -1,3 +1,2 @@
--- The registers of a table, and the numbers of the report.
-pub mod Registers
+-- The numbers of the report.
 pub mod Summary

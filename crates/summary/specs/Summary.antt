@@ -10,7 +10,7 @@ use Rattle.history.specs.Table.{history, largestCount, rowCount}
 use Rattle.history.specs.Answer.{number, fresh, ragged, overfull, short-list, Test, test, ifSo, firstMet, passed}
 use Rattle.methods.specs.Mark.{written}
 use Rattle.marks.specs.Marks.{answerTo, Said}
-use Rattle.summary.specs.Registers.{registers}
+use Rattle.grouping.specs.Registers.{registers}
 
 -- a register's number, its count of rows, the codes of questions 1 and 3, the row field of question 3 (01, "Files, program, C host")
 unfoldable pub entry : List ℕ → ℕ → List ℕ

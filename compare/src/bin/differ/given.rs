@@ -6,7 +6,7 @@ use compare::damage::damage;
 use compare::file::{table_of, MOST_ROWS};
 use compare::random::Random;
 use compare::table::{registers, COLUMNS};
-use compare::tables::table;
+use compare::tables::{road, table};
 use compare::{calls, histories, logs, shapes, ALLOWANCE};
 
 /// What a call is given; each call takes some of it.
@@ -15,6 +15,7 @@ pub struct Given {
     pub table: Box<[u64]>,
     pub bytes: Box<[u8]>,
     pub register: u64,
+    pub registers: Box<[u64]>,
     pub question: u64,
     pub allowance: u64,
     pub k: u64,
@@ -36,6 +37,34 @@ fn register(table: &[u64], random: &mut Random) -> u64 {
         return random.next();
     }
     registers[random.below(registers.len() as u64) as usize]
+}
+
+/// The table's registers, or some of them, in any sequence or ascending; often with others among them, and now and then with many more.
+fn listed(table: &[u64], random: &mut Random) -> Box<[u64]> {
+    let mut list = registers(table);
+    if !random.one_in(4) {
+        random.shuffle(&mut list);
+    }
+    if random.one_in(4) {
+        list.truncate(random.below(list.len() as u64 + 1) as usize);
+    }
+    let more = if random.one_in(1000) { random.below(2000) } else { [0, 0, 1, 3][random.below(4) as usize] };
+    for _ in 0..more {
+        let at = random.below(list.len() as u64 + 1) as usize;
+        list.insert(at, another(table, random));
+    }
+    list.into_boxed_slice()
+}
+
+/// A register to list: one of the table's, so that it may stand there twice, one that is near, any, the largest number or the smallest.
+fn another(table: &[u64], random: &mut Random) -> u64 {
+    match random.below(6) {
+        0 => u64::MAX,
+        1 => random.next(),
+        2 => register(table, random) ^ 1 << random.below(64),
+        3 => 0,
+        _ => register(table, random),
+    }
 }
 
 /// One of the three questions, and sometimes another number.
@@ -125,6 +154,14 @@ pub fn of_register(random: &mut Random) -> Given {
     let given = of_table(random);
     let register = register(&given.table, random);
     Given { register, question: question(random), allowance: allowance(&given.table, register, random), ..given }
+}
+
+/// A table, a list of registers and a question; the allowance is by one of the registers.
+pub fn of_registers(random: &mut Random) -> Given {
+    let table = if random.one_in(2) { table(random) } else { road(random) }.into_boxed_slice();
+    let registers = listed(&table, random);
+    let register = registers.first().copied().unwrap_or_default();
+    Given { registers, question: question(random), allowance: allowance(&table, register, random), table, ..Given::default() }
 }
 
 /// A table, a register and an order.

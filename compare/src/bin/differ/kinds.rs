@@ -1,6 +1,6 @@
-//! The kinds of calls: what each is given, what its result needs, the codes that it can give, and the call on both sides.
+//! The kinds of calls: what each is given, what its result needs, the codes that it can give and list, and the call on both sides.
 
-use compare::answer::Answer;
+use compare::answer::{Answer, FIELDS};
 use compare::file::{rows_of, RECORD};
 use compare::random::Random;
 use compare::table::{registers, COLUMNS};
@@ -15,6 +15,8 @@ pub type Call = fn(&Given, &mut Lent) -> Answer;
 pub struct Kind {
     pub name: &'static str,
     pub codes: &'static [u64],
+    /// the codes that the answers in its list can have, where it lists answers
+    pub listed: &'static [u64],
     pub given: fn(&mut Random) -> Given,
     pub needed: fn(&Given) -> Needed,
     pub library: Call,
@@ -24,12 +26,13 @@ pub struct Kind {
 /// A kind whose call has one name, and one list of arguments, on both sides.
 macro_rules! kind {
     (
-        $name:literal gives $codes:expr, from $given:expr, needs $needed:expr;
+        $name:literal gives $codes:expr, $(lists [$($listed:literal),*],)? from $given:expr, needs $needed:expr;
         |$g:ident, $lent:ident| $call:ident($($argument:expr),*)
     ) => {
         Kind {
             name: $name,
             codes: $codes,
+            listed: &[$($($listed),*)?],
             given: $given,
             needed: $needed,
             library: |$g, $lent| library::$call($($argument),*),
@@ -53,7 +56,7 @@ fn printed(text: String) -> Needed {
     Needed::Bytes(text.len())
 }
 
-pub const KINDS: [Kind; 20] = [
+pub const KINDS: [Kind; 21] = [
     kind!(
         "marker::mark" gives &[0, 1, 2, 3, 4, 5, 7, 8, 9, 10, 11, 12], from given::of_register, needs |g| Needed::Numbers(g.rows());
         |g, lent| mark(&g.table, g.register, g.question, g.allowance, &mut lent.numbers)
@@ -133,6 +136,11 @@ pub const KINDS: [Kind; 20] = [
     kind!(
         "parsing::list" gives OF_NUMBERS, from given::of_lines, needs |_| Needed::Numbers(8);
         |g, lent| numbers(&g.bytes, &mut lent.numbers)
+    ),
+    kind!(
+        "roads::answers" gives &[0, 1, 2, 3, 10], lists [0, 4, 5, 7, 8, 9, 11, 12], from given::of_registers,
+        needs |g| Needed::Numbers(g.registers.len() * FIELDS);
+        |g, lent| answers(&g.table, &g.registers, g.question, g.allowance, &mut lent.numbers)
     ),
 ];
 

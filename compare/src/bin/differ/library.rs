@@ -5,11 +5,10 @@
 
 use compare::answer::Answer;
 use compare::library::answered;
-pub use compare::library::{load, mark_table as mark};
+pub use compare::library::{answer, answers, load, mark_table as mark};
 
 #[link(name = "calls", kind = "static")]
 extern "C" {
-    fn calls_answer(table: *const u64, cells: usize, register: u64, question: u64, allowance: u64, said: *mut u64, four: usize);
     fn calls_check(table: *const u64, cells: usize, register: u64, k: u64, list: *const u64, places: usize, said: *mut u64, four: usize);
     fn calls_screen(table: *const u64, cells: usize, register: u64, said: *mut u64, four: usize);
     fn calls_read(bytes: *const u8, length: usize, table: *mut u64, cells: usize, said: *mut u64, four: usize);
@@ -49,10 +48,6 @@ extern "C" {
     fn calls_put_answer(code: u64, row: u64, rows: u64, trials: u64, list: *mut u64, places: usize, said: *mut u64, four: usize);
     fn calls_number(text: *const u8, length: usize, said: *mut u64, four: usize);
     fn calls_numbers(text: *const u8, length: usize, list: *mut u64, places: usize, said: *mut u64, four: usize);
-}
-
-pub fn answer(table: &[u64], register: u64, question: u64, allowance: u64) -> Answer {
-    answered(|said, four| unsafe { calls_answer(table.as_ptr(), table.len(), register, question, allowance, said, four) })
 }
 
 pub fn check(table: &[u64], register: u64, k: u64, list: &[u64]) -> Answer {

@@ -2,7 +2,7 @@
 //! damaged files and logs, right and wrong orders, room enough and too little.
 //! `differ [CALLS]`: so many calls of the entry for C, and a fifth of that of every other call. An answer has four fields; the lent lists and
 //! buffers are compared whole, of refused calls too.
-//! Ends with status 1 where something differs, an order is not accepted, or a code that a call can give has not come.
+//! Ends with status 1 where something differs, an order is not accepted, or a code that a call can give or list has not come.
 
 mod entry;
 mod given;
@@ -14,6 +14,8 @@ mod tally;
 use std::process::exit;
 use std::thread;
 
+use compare::answer::FIELDS;
+use compare::codes::FRESH;
 use compare::random::Random;
 
 use kinds::{Kind, KINDS};
@@ -29,6 +31,9 @@ fn compare_once(kind: &Kind, random: &mut Random, tally: &mut Tally) {
     let (mut ours, mut theirs) = (lent.clone(), lent.clone());
     let said = (kind.library)(&given, &mut ours);
     let expected = (kind.plain)(&given, &mut theirs);
+    if expected.code == FRESH {
+        tally.list(&theirs.numbers[..given.registers.len() * FIELDS]);
+    }
     tally.add(expected.code, said == expected && ours == theirs, || {
         format!("{} differs: {given:?}\nlent {lent:?}\nlibrary {said:?} {ours:?}\nplain   {expected:?} {theirs:?}", kind.name)
     });
@@ -53,10 +58,13 @@ fn main() {
     });
     println!("{:<20} {:>9} {:>9} {:>12}", "call", "calls", "refused", "differences");
     let mut sound = entry.sound();
-    for (kind, tally) in KINDS.iter().zip(tallies) {
+    for (kind, tally) in KINDS.iter().zip(&tallies) {
         sound &= tally.sound(kind.name, kind.codes);
     }
     entry.print();
+    for (kind, tally) in KINDS.iter().zip(&tallies) {
+        sound &= tally.varied(kind.name, kind.listed);
+    }
     if !sound {
         exit(1);
     }

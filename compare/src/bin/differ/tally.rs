@@ -1,11 +1,14 @@
 //! The counts of one kind of calls.
 
+use compare::answer::FIELDS;
 use compare::codes::{FRESH, SPENT, STALE};
 
 #[derive(Default)]
 pub struct Tally {
     pub calls: u64,
     codes: [u64; 20],
+    /// the codes of the answers in lists
+    listed: [u64; 20],
     differences: u64,
 }
 
@@ -19,6 +22,13 @@ impl Tally {
                 println!("{}", shown());
             }
             self.differences += 1;
+        }
+    }
+
+    /// The codes of the answers that a call has listed, by the plain side's list.
+    pub fn list(&mut self, answers: &[u64]) {
+        for numbers in answers.chunks(FIELDS) {
+            self.listed[numbers[0] as usize] += 1;
         }
     }
 
@@ -36,5 +46,14 @@ impl Tally {
             println!("{name}: codes that never came: {missing:?}");
         }
         self.differences == 0 && missing.is_empty()
+    }
+
+    /// Prints how often each of the codes came in lists, where there are some; whether each has come.
+    pub fn varied(&self, name: &str, codes: &[u64]) -> bool {
+        let counts: Vec<String> = codes.iter().map(|&code| format!("{code}: {}", self.listed[code as usize])).collect();
+        if !codes.is_empty() {
+            println!("{name}: answers listed by code: {}", counts.join(", "));
+        }
+        codes.iter().all(|&code| self.listed[code as usize] > 0)
     }
 }

@@ -3,6 +3,7 @@
 //! `before` an earlier build of the library is timed in the same run.
 
 mod logs;
+mod roads;
 mod timing;
 mod trials;
 
@@ -120,6 +121,7 @@ fn main() {
         println!("{name:<27} {question:>2} {ours:>9.1} {plain:>9.1}");
     }
     differences += trials::compare(least);
+    differences += roads::compare(least);
     differences += logs::compare(least);
     println!("\ndifferent results: {differences}");
     if differences > 0 {

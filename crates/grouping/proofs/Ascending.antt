@@ -17,7 +17,7 @@ use Rattle.lists.proofs.Ranges.{below-in, in-below}
 use Rattle.lists.proofs.Sorts.{in-sort, sort-in, sort-length, sort-ordered}
 use Rattle.history.specs.Table.{RowOf, rowCount}
 use Rattle.lists.proofs.Ranges.{from-length}
-use Rattle.summary.specs.Registers.{others, distinct, registerAt, registerColumn, registers}
+use Rattle.grouping.specs.Registers.{others, distinct, registerAt, registerColumn, registers}
 
 -- what follows x is in the list, and above x
 in-others : (x : ℕ) (l : List ℕ) {y : ℕ} → In y (others x l) → In y l

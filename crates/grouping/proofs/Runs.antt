@@ -9,7 +9,7 @@ use native.Mathlib.Omega.{arith}
 use lib.ListN.{length, getD, take, drop, set, length-set, drop-of-length-le}
 use lib.Seq.{drop-cons, take-suc-set, drop-set-lt, drop-drop, length-take-le}
 use borrow.Author.Tests.{eq-eqb, ne-eqb}
-use Rattle.summary.specs.Registers.{others, distinct}
+use Rattle.grouping.specs.Registers.{others, distinct}
 
 pub record Kept (list₀ list : List ℕ) (last m i : ℕ) : Type 0 where
   pub some : 1 ≤ m

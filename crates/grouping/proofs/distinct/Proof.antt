@@ -2,9 +2,9 @@
 use Prim.Native.Nat.{_-_}
 use native.Mathlib.Omega.{arith}
 use lib.ListN.{length}
-use Rattle.summary.proofs.Runs.{kept-none, Kept, kept-first, kept-again, kept-more, kept-end}
-use Rattle.summary.proofs.distinct.Statement.{statement}
-use Rattle.summary.proofs.distinct.Tie as tie
+use Rattle.grouping.proofs.Runs.{kept-none, Kept, kept-first, kept-again, kept-more, kept-end}
+use Rattle.grouping.proofs.distinct.Statement.{statement}
+use Rattle.grouping.proofs.distinct.Tie as tie
 
 abbrev Inv-loop : tie.InvT-loop
 Inv-loop list₀ n last₀ m₀ i₀ list last m i = Kept list₀ list last m i

@@ -1,0 +1,24 @@
+-- What the steps of the call take and leave.
+-- Assumes nothing.
+use Prim.Native.Nat.{ℕ, _%_, _≤_}
+use mathlib.Core.Path.{_≡_}
+use mathlib.Core.List.{List}
+use lib.ListN.{length}
+use Rattle.history.specs.declared.Answer.{Answer}
+use Rattle.history.specs.Table.{largestCount, rowCount, rowsOf}
+use Rattle.history.specs.Screen.{screening}
+use Rattle.columns.specs.Rows.{Listed}
+
+-- the table passes tests 1 and 2
+pub record Sound (t : List ℕ) : Type 0 where
+  pub whole : length t % 5 ≡ 0
+  pub few : rowCount t ≤ largestCount
+
+-- rows are those of a register, in table sequence
+abbrev pub RowsOf : List ℕ → ℕ → List ℕ → Type 0
+RowsOf t register rows = rows ≡ rowsOf t register
+
+-- a register is screened with this answer; where that refuses nothing, its rows stand by rising start
+pub record Examined (t : List ℕ) (register : ℕ) (met : Answer) (rows : List ℕ) : Type 0 where
+  pub answer : met ≡ screening t register
+  pub listed : met .code ≡ 0 → Listed t register rows

@@ -1,0 +1,3 @@
+-- What one call for a list of registers writes and says, and what its steps leave.
+pub mod Answers
+pub mod Examined
