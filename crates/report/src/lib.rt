@@ -12,7 +12,7 @@ ghost use Rattle.records.specs.Records.{tableOf};
 ghost use Rattle.summary.specs.Summary.{Meant};
 ghost use Rattle.printing.specs.Texts.{Printed};
 ghost use Rattle.printing.specs.Files.{fileText};
-ghost use Rattle.report.specs.Report.{header, reportOf, reportAnswer, reportAfter};
+ghost use Rattle.report.specs.Report.{reportOf, reportAnswer, reportAfter};
 
 // How many bytes k lines of five numbers take.
 fn lines_length(numbers: &[u64], k: usize) -> usize
@@ -49,13 +49,13 @@ fn put_lines(numbers: &[u64], k: usize, out: &mut [u8], at: usize) -> usize
     place
 }
 
-// The header line, and k lines of five numbers.
-fn headed(numbers: &[u64], k: usize, out: &mut [u8]) -> Answer
+// A header line, and k lines of five numbers.
+pub fn headed(header: &[u8], numbers: &[u64], k: usize, out: &mut [u8]) -> Answer
+    requires { ⌜ length (now header) ≤ 64 ⌝ }
     requires { ⌜ k * 5 ≤ length (now numbers) ⌝ }
     requires { ⌜ k ≤ largestCount ⌝ }
-    ensures { λ r. ⌜ Printed (header ++ linesOf 5 k (now (numbers .entry))) (now (out .entry)) r (now (out .exit)) ⌝ }
+    ensures { λ r. ⌜ Printed (now (header .entry) ++ linesOf 5 k (now (numbers .entry))) (now (out .entry)) r (now (out .exit)) ⌝ }
 {
-    let header = b"register,rows,one,two,row\n";
     let length = header.len() + lines_length(numbers, k);
     if out.len() < length {
         return Answer::refused(Answer::SHORT_LIST, 0);
@@ -77,7 +77,7 @@ pub fn report(table: &[u64], out: &mut [u8]) -> Answer
     }
     let k = summed.rows as usize;
     let n = k * summary::ENTRY;
-    headed(&numbers[..n], k, out)
+    headed(b"register,rows,one,two,row\n", &numbers[..n], k, out)
 }
 
 // The report of a file, or the line of its refusal, and what the marks on its lines say.

@@ -30,6 +30,12 @@ use Rattle.marks.proofs.Places.{same-answer}
 use Rattle.marks.proofs.Saying.{places}
 use Rattle.roads.specs.Examined.{Sound, RowsOf, Examined}
 
+-- a question that is asked is not refused
+pub asked-is : (question : ℕ) → Asked question → false ≡ noQuestion question
+asked-is question (inl q) = rw q refl
+asked-is question (inr (inl q)) = rw q refl
+asked-is question (inr (inr q)) = rw q refl
+
 module _ (t : List ℕ) (s : Sound t) (register : ℕ) where
   abbrev h : List Op
   h = history t register
@@ -84,20 +90,12 @@ module _ (t : List ℕ) (s : Sound t) (register : ℕ) where
       q ∙ no-fault-answer xs (passed (length h)) (code-no-fault xs (tests-coded (length t) h false) (passed (length h)) (sym (ap (λ x. x .code) q) ∙ z))
 
   module _ (question allowance : ℕ) (asked : Asked question) (met : Answer) where
-    asked-is : false ≡ noQuestion question
-    asked-is = go asked
-      where
-        go : Asked question → false ≡ noQuestion question
-        go (inl q) = rw q refl
-        go (inr (inl q)) = rw q refl
-        go (inr (inr q)) = rw q refl
-
     -- a refusal of the screening is the marking call's
     pub answer-refused : met ≡ screening t register → met .code ≢ 0 → met ≡ answerTo t register question allowance
     unfolding answerTo screening
     answer-refused q n =
         ap (λ (o : Outcome). o .answer)
-        (mark-refused t register question allowance places met (met-refused (length t) h question places false asked-is met q (length places) refl n) n)
+        (mark-refused t register question allowance places met (met-refused (length t) h question places false (asked-is question asked) met q (length places) refl n) n)
 
     -- THE MARK, from what the method of the question gives
     pub answer-marked : met ≡ screening t register → met .code ≡ 0 → (list : List ℕ) → length list ≡ largestCount → (a : Answer) (after : List ℕ) →
@@ -105,7 +103,7 @@ module _ (t : List ℕ) (s : Sound t) (register : ℕ) where
     unfolding answerTo screening mark
     answer-marked q z list long a after j =
         let few : met .rows ≤ largestCount = omega (arith, ap (λ x. x .rows) (passed-is met q z), rows-fit) in
-        let first = met-passed (length t) h question list false asked-is met q largestCount long z few in
+        let first = met-passed (length t) h question list false (asked-is question asked) met q largestCount long z few in
         let e = mark-marked t register question allowance list met first z (outcome a after) j in
         ap (λ (o : Outcome). o .answer) e
         ∙ same-answer h list places (omega (arith, rows-fit, long)) (omega (arith, rows-fit, length-replicate {A = ℕ} largestCount 0)) (length t) question allowance

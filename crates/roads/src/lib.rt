@@ -74,7 +74,7 @@ fn answer_rows(
 }
 
 // What the marking call answers for a register, with the rows by register.
-fn answer_in(
+pub fn answer_in(
     table: &[u64],
     grouped: &[u64],
     register: u64,
@@ -97,7 +97,7 @@ fn answer_in(
 }
 
 // The fields of an answer, from a place of the list on.
-fn put(answer: Answer, list: &mut [u64], at: usize)
+pub fn put(answer: Answer, list: &mut [u64], at: usize)
     requires { ⌜ at + 4 ≤ length (now list) ⌝ }
     ensures { λ _. ⌜ now (list .exit) ≡ sets (now (list .entry)) at (numbers answer) ⌝ }
 {

@@ -6,7 +6,6 @@ use borrow.Author.Needs.{needs}
 use Rattle.text.specs.Decimal.{linesOf}
 use Rattle.text.proofs.Joins.{lines-length}
 use Rattle.printing.proofs.Writing.{printed-short, printed, parts}
-use Rattle.report.specs.Report.{header}
 use Rattle.report.proofs.headed.Statement.{statement}
 use Rattle.report.proofs.headed.Tie as tie
 
@@ -22,7 +21,7 @@ refused-requires c κs = search needs
 returns : tie.Need-returns
 returns c =
     let a = c .before .before .before .before .before .before .args in
-    printed-short (header ++ linesOf 5 (a .k) (a .numbers .now)) _ _ (omega (arith, c .before .before .lines-length .ensures, length-append header (linesOf 5 (a .k) (a .numbers .now)))) _ (c .before .if1 .taken) (c .refused .ensures)
+    printed-short (a .header .now ++ linesOf 5 (a .k) (a .numbers .now)) _ _ (omega (arith, c .before .before .lines-length .ensures, length-append (a .header .now) (linesOf 5 (a .k) (a .numbers .now)))) _ (c .before .if1 .taken) (c .refused .ensures)
 
 put-bytes-requires : tie.Need-put-bytes-requires
 put-bytes-requires c κs = search needs
@@ -38,8 +37,8 @@ same-length c = search needs
 
 returns-2 : tie.Need-returns-2
 returns-2 c =
-    let a = c .before .before .before .before .before .before .before .before .before .before .before .before .before .before .before .args in
-    printed (header ++ linesOf 5 (a .k) (a .numbers .now)) _ _ (omega (arith, c .before .before .before .before .before .before .before .before .before .before .before .lines-length .ensures, length-append header (linesOf 5 (a .k) (a .numbers .now)))) _ _ (omega arith) (c .passed .ensures) (parts header (linesOf 5 (a .k) (a .numbers .now)) (a .out .now) _ _ _ (c .before .before .before .before .before .before .before .put-bytes .ensures .0) (c .before .before .before .before .before .before .before .put-bytes .ensures .1) (c .before .before .before .put-lines .ensures .1))
+    let a = c .before .before .before .before .before .before .before .before .before .before .before .before .before .before .args in
+    printed (a .header .now ++ linesOf 5 (a .k) (a .numbers .now)) _ _ (omega (arith, c .before .before .before .before .before .before .before .before .before .before .lines-length .ensures, length-append (a .header .now) (linesOf 5 (a .k) (a .numbers .now)))) _ _ (omega arith) (c .passed .ensures) (parts (a .header .now) (linesOf 5 (a .k) (a .numbers .now)) (a .out .now) _ _ _ (c .before .before .before .before .before .before .before .put-bytes .ensures .0) (c .before .before .before .before .before .before .before .put-bytes .ensures .1) (c .before .before .before .put-lines .ensures .1))
 
 pub headed-spec : {M : Type 1} → statement M
 headed-spec =

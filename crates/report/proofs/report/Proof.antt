@@ -1,8 +1,8 @@
-use Rattle.summary.proofs.Telling.{meant}
 -- The summary refuses what the report refuses, or leaves its numbers at the front of the array.
 use native.Mathlib.Omega.{arith}
-use borrow.Author.Needs.{needs}
+use Rattle.summary.proofs.Telling.{meant}
 use Rattle.report.proofs.Reporting.{report-refused, lines-few, numbers-long, numbers-in, report-printed}
+use borrow.Author.Needs.{needs}
 use Rattle.report.proofs.report.Statement.{statement}
 use Rattle.report.proofs.report.Tie as tie
 
@@ -18,20 +18,23 @@ returns c = (report-refused _ _ _ _ (c .before .before .before .summary .ensures
 mul-n : tie.Need-mul-n
 mul-n c = omega (arith, lines-few _ (c .before .before .before .before .before .before .before .args .out .now) _ _ (c .before .before .before .summary .ensures .0) (omega arith))
 
-array-share-prefix-numbers : tie.Need-array-share-prefix-numbers
-array-share-prefix-numbers c = numbers-in _ (c .before .before .before .before .before .before .before .args .out .now) _ _ (c .before .before .before .summary .ensures .0) (omega arith)
-
 slice-aggregate-headed : tie.Need-slice-aggregate-headed
-slice-aggregate-headed c = numbers-long _ (c .before .before .before .before .before .before .before .before .args .out .now) _ _ (c .before .before .before .before .summary .ensures .0) (omega arith)
+slice-aggregate-headed c = search needs
+
+array-share-prefix-numbers : tie.Need-array-share-prefix-numbers
+array-share-prefix-numbers c = numbers-in _ (c .before .before .before .before .before .before .before .before .args .out .now) _ _ (c .before .before .before .before .summary .ensures .0) (omega arith)
+
+slice-aggregate-headed-2 : tie.Need-slice-aggregate-headed-2
+slice-aggregate-headed-2 c = numbers-long _ (c .before .before .before .before .before .before .before .before .before .args .out .now) _ _ (c .before .before .before .before .before .summary .ensures .0) (omega arith)
 
 headed-requires : tie.Need-headed-requires
-headed-requires c κs = (omega (arith, numbers-long _ (c .before .before .before .before .before .before .before .before .before .args .out .now) _ _ (c .before .before .before .before .before .summary .ensures .0) (omega arith)), lines-few _ (c .before .before .before .before .before .before .before .before .before .args .out .now) _ _ (c .before .before .before .before .before .summary .ensures .0) (omega arith))
+headed-requires c κs = (omega arith, (omega (arith, numbers-long _ (c .before .before .before .before .before .before .before .before .before .before .args .out .now) _ _ (c .before .before .before .before .before .before .summary .ensures .0) (omega arith)), lines-few _ (c .before .before .before .before .before .before .before .before .before .before .args .out .now) _ _ (c .before .before .before .before .before .before .summary .ensures .0) (omega arith)))
 
 same-length : tie.Need-same-length
 same-length c = search needs
 
 returns-2 : tie.Need-returns-2
-returns-2 c = (report-printed _ _ _ _ (c .before .before .before .before .before .before .before .before .summary .ensures .0) (omega arith) _ _ (c .before .before .headed .ensures), meant _)
+returns-2 c = (report-printed _ _ _ _ (c .before .before .before .before .before .before .before .before .before .summary .ensures .0) (omega arith) _ _ (c .before .before .headed .ensures), meant _)
 
 pub report-spec : {M : Type 1} → statement M
 report-spec =
@@ -41,8 +44,9 @@ report-spec =
     summary-requires
     returns
     mul-n
-    array-share-prefix-numbers
     slice-aggregate-headed
+    array-share-prefix-numbers
+    slice-aggregate-headed-2
     headed-requires
     same-length
     returns-2)

@@ -1,0 +1,2 @@
+-- The text from the numbers of its lines.
+pub mod Lines

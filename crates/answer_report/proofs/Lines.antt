@@ -1,0 +1,69 @@
+-- The numbers of a line, the text that they make, and what its codes say.
+-- Assumes nothing.
+use Prim.Native.Nat.{ℕ, suc, _+_, _*_, _≤_}
+use mathlib.Core.Path.{_≡_, refl, sym, ap, ap₂, _∙_}
+use mathlib.Core.Bool.{true, false}
+use mathlib.Core.List.{List, [], _∷_, _++_, flatMap, append-assoc}
+use native.Mathlib.Omega.{arith}
+use lib.ListN.{length, set, take, drop}
+use lib.Seq.{sets, take-at, drop-at}
+use Rattle.history.specs.declared.Answer.{Answer}
+use Rattle.history.specs.Table.{rowCount}
+use Rattle.history.specs.Answer.{numbers, no-such-question, refused}
+use Rattle.methods.specs.Mark.{noQuestion, written}
+use Rattle.text.specs.Decimal.{line, linesOf}
+use Rattle.printing.specs.Texts.{textAnswer, textAfter, Printed, refusedLine}
+use Rattle.marks.specs.Marks.{answerTo}
+use Rattle.marks.proofs.Saying.{answer-said}
+use Rattle.grouping.specs.Registers.{registers}
+use Rattle.grouping.proofs.Entries.{flat-long}
+use Rattle.roads.specs.Answers.{fields}
+use Rattle.answer_report.specs.Text.{header, lineOf, answersText, Meant}
+
+pub line-long : (t : List ℕ) (question allowance register : ℕ) → length (lineOf t question allowance register) ≡ 5
+unfolding lineOf fields
+line-long t question allowance register = refl
+
+-- lines of w numbers each are those at the front of the list alone
+lines-front : (f : ℕ → List ℕ) (w : ℕ) → ((x : ℕ) → length (f x) ≡ w) → (l rest : List ℕ) → linesOf w (length l) (flatMap f l ++ rest) ≡ linesOf w (length l) (flatMap f l)
+unfolding flatMap linesOf
+lines-front f w wide [] rest = refl
+lines-front f w wide (x ∷ l) rest =
+    let a : f x ++ flatMap f l ++ rest ≡ f x ++ (flatMap f l ++ rest) = append-assoc (f x) (flatMap f l) rest in
+    ap₂ (λ (y z : List ℕ). line y ++ linesOf w (length l) z) (ap (take w) a ∙ take-at (f x) (flatMap f l ++ rest) w (wide x)) (ap (drop w) a ∙ drop-at (f x) (flatMap f l ++ rest) w (wide x))
+    ∙ ap (λ (y : List ℕ). line (f x) ++ y) (lines-front f w wide l rest)
+    ∙ sym (ap₂ (λ (y z : List ℕ). line y ++ linesOf w (length l) z) (take-at (f x) (flatMap f l) w (wide x)) (drop-at (f x) (flatMap f l) w (wide x)))
+
+-- the register stored, and behind it the fields of its answer
+pub line-stored : (t : List ℕ) (question allowance register at : ℕ) (list next : List ℕ) (one : Answer) → one ≡ answerTo t register question allowance →
+    next ≡ sets (set list at register) (at + 1) (numbers one) → next ≡ sets list at (lineOf t question allowance register)
+unfolding lineOf fields
+line-stored t question allowance register at list next one e n =
+    let p : at + 1 ≡ suc at = omega arith in n ∙ rw (p, e) refl
+
+pub meant : (t : List ℕ) (question allowance : ℕ) → Meant t question allowance
+meant t question allowance register f = answer-said t register question allowance f
+
+-- a text printed is one that equals it printed
+pub text-printed : (a b out : List ℕ) (r : Answer) (after : List ℕ) → a ≡ b → Printed a out r after → Printed b out r after
+text-printed a b out r after e p = (p .0 ∙ ap (λ x. textAnswer x out) e, p .1 ∙ ap (λ x. textAfter x out) e)
+
+module _ (t : List ℕ) (question allowance : ℕ) where
+  -- THE TEXT, from the numbers of its lines
+  pub text-is : noQuestion question ≡ false → (m : ℕ) (found list₀ list : List ℕ) → (m ≡ length (registers t)) × (found ≡ registers t) →
+      list ≡ written (flatMap (lineOf t question allowance) found) list₀ → header ++ linesOf 5 m list ≡ answersText question allowance t
+  unfolding answersText
+  text-is asked m found list₀ list e s =
+      ap (λ (x : List ℕ). header ++ x) (
+      ap₂ (linesOf 5) (e .0) (s ∙ ap (λ (x : List ℕ). written (flatMap f x) list₀) (e .1))
+      ∙ lines-front f 5 (line-long t question allowance) (registers t) (drop (length (flatMap f (registers t))) list₀)
+      )
+      ∙ sym (rw asked refl)
+    where
+      f : ℕ → List ℕ
+      f = lineOf t question allowance
+
+  -- a question that is refused has its line
+  pub text-refused : noQuestion question ≡ true → refusedLine (refused no-such-question 0) ≡ answersText question allowance t
+  unfolding answersText
+  text-refused n = sym (rw n refl)

@@ -1,0 +1,2 @@
+-- The text of the answers of a road.
+pub mod Text
