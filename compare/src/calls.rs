@@ -140,6 +140,10 @@ pub fn road(bytes: &[u8], out: &mut [u8]) -> Answer {
     print(&text::road_of(bytes), out)
 }
 
+pub fn answer_road(bytes: &[u8], question: u64, allowance: u64, out: &mut [u8]) -> Answer {
+    print(&text::answers_of(bytes, question, allowance), out)
+}
+
 pub fn log(bytes: &[u8], out: &mut [u8]) -> Answer {
     print(&text::log_of(bytes), out)
 }

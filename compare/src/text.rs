@@ -2,11 +2,11 @@
 
 use crate::answer::Answer;
 use crate::calls::{answer, check, mark};
-use crate::codes::FRESH;
+use crate::codes::{FRESH, NO_SUCH_QUESTION};
 use crate::file::{table_of, MOST_ROWS};
 use crate::log;
 use crate::table::{registers, COLUMNS};
-use crate::ALLOWANCE;
+use crate::{is_question, ALLOWANCE};
 
 /// Numbers in decimal with commas between them, and a line feed.
 fn line(numbers: &[u64]) -> String {
@@ -43,6 +43,19 @@ fn text_of(table: Result<Vec<u64>, Answer>, text: impl FnOnce(&[u64]) -> String)
 
 pub fn road_of(bytes: &[u8]) -> String {
     text_of(table_of(bytes), report_of)
+}
+
+/// The header and a line for each register, with the fields of its answer; or the line of the refused question.
+fn answers_text(table: &[u64], question: u64, allowance: u64) -> String {
+    if !is_question(question) {
+        return refused_of(Answer::refused(NO_SUCH_QUESTION, 0));
+    }
+    let fields = |register: u64| line(&[&[register][..], &answer(table, register, question, allowance).numbers()[..]].concat());
+    format!("register,code,row,rows,trials\n{}", registers(table).into_iter().map(fields).collect::<String>())
+}
+
+pub fn answers_of(bytes: &[u8], question: u64, allowance: u64) -> String {
+    text_of(table_of(bytes), |table| answers_text(table, question, allowance))
 }
 
 pub fn log_of(bytes: &[u8]) -> String {

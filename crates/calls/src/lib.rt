@@ -18,6 +18,7 @@ ghost use Rattle.summary.specs.Summary.{summaryAnswer, summaryList};
 ghost use Rattle.printing.specs.Texts.{textAfter, refusedLine};
 ghost use Rattle.printing.specs.Files.{fileText};
 ghost use Rattle.report.specs.Report.{reportOf, reportAnswer, reportAfter};
+ghost use Rattle.answer_report.specs.Text.{answersText};
 ghost use Rattle.log_report.specs.Logs.{logText};
 ghost use Rattle.sheet.specs.Sheet.{sheetOf, examOf};
 ghost use Rattle.file_sheets.specs.Files.{benchOf, examFile};
@@ -135,6 +136,20 @@ pub extern "C" fn calls_road(bytes: &[u8], out: &mut [u8], to: &mut [u64])
     ensures { λ _. ⌜ Prints (fileText (now (bytes .entry)) reportOf) (now (out .entry)) (now (to .entry)) (now (to .exit)) ⌝ }
 {
     report::road(bytes, out).write(to);
+}
+
+#[no_mangle]
+pub extern "C" fn calls_answer_road(
+    bytes: &[u8],
+    question: u64,
+    allowance: u64,
+    out: &mut [u8],
+    to: &mut [u64],
+)
+    ensures { λ _. ⌜ now (out .exit) ≡ textAfter (fileText (now (bytes .entry)) (answersText question allowance)) (now (out .entry)) ⌝ }
+    ensures { λ _. ⌜ Prints (fileText (now (bytes .entry)) (answersText question allowance)) (now (out .entry)) (now (to .entry)) (now (to .exit)) ⌝ }
+{
+    answer_report::road(bytes, question, allowance, out).write(to);
 }
 
 #[no_mangle]

@@ -43,12 +43,7 @@ impl Ties {
     fn add(&mut self, rows: &[Row]) {
         let [starts, finishes] = [|row: &Row| row.start, |row: &Row| row.finish].map(|stamp| rows.iter().map(stamp).collect::<HashSet<_>>());
         let touching = |row: &Row| finishes.contains(&row.start) && row.start != row.finish;
-        let met = [
-            starts.len() < rows.len(),
-            finishes.len() < rows.len(),
-            rows.iter().any(touching),
-            rows.iter().any(|row| row.start == row.finish),
-        ];
+        let met = [starts.len() < rows.len(), finishes.len() < rows.len(), rows.iter().any(touching), rows.iter().any(|row| row.start == row.finish)];
         self.marks += u64::from(met.contains(&true));
         for (count, met) in [&mut self.starts, &mut self.finishes, &mut self.touching, &mut self.no_length].into_iter().zip(met) {
             *count += u64::from(met);

@@ -180,6 +180,15 @@ pub fn of_file(random: &mut Random) -> Given {
     Given { bytes: bytes.into_boxed_slice(), ..Given::default() }
 }
 
+/// A file, half of them of many registers, a question and an allowance.
+pub fn of_file_question(random: &mut Random) -> Given {
+    let given = of_file(random);
+    let bytes = if random.one_in(2) { given.bytes } else { histories::file(&shapes::road(random)).into_boxed_slice() };
+    let table = table_of(&bytes).unwrap_or_default();
+    let register = register(&table, random);
+    Given { bytes, question: question(random), allowance: allowance(&table, register, random), ..Given::default() }
+}
+
 /// A log with named columns; one in three has faults.
 pub fn of_log(random: &mut Random) -> Given {
     Given { bytes: logs::log(random).into_boxed_slice(), ..Given::default() }

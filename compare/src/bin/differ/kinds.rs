@@ -56,7 +56,7 @@ fn printed(text: String) -> Needed {
     Needed::Bytes(text.len())
 }
 
-pub const KINDS: [Kind; 21] = [
+pub const KINDS: [Kind; 22] = [
     kind!(
         "marker::mark" gives &[0, 1, 2, 3, 4, 5, 7, 8, 9, 10, 11, 12], from given::of_register, needs |g| Needed::Numbers(g.rows());
         |g, lent| mark(&g.table, g.register, g.question, g.allowance, &mut lent.numbers)
@@ -141,6 +141,10 @@ pub const KINDS: [Kind; 21] = [
         "roads::answers" gives &[0, 1, 2, 3, 10], lists [0, 4, 5, 7, 8, 9, 11, 12], from given::of_registers,
         needs |g| Needed::Numbers(g.registers.len() * FIELDS);
         |g, lent| answers(&g.table, &g.registers, g.question, g.allowance, &mut lent.numbers)
+    ),
+    kind!(
+        "answer_report::road" gives OF_ROOM, from given::of_file_question, needs |g| printed(text::answers_of(&g.bytes, g.question, g.allowance));
+        |g, lent| answer_road(&g.bytes, g.question, g.allowance, &mut lent.bytes)
     ),
 ];
 

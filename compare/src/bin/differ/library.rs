@@ -16,6 +16,7 @@ extern "C" {
     fn calls_write(table: *const u64, cells: usize, bytes: *mut u8, length: usize, said: *mut u64, four: usize);
     fn calls_summary(table: *const u64, cells: usize, list: *mut u64, places: usize, said: *mut u64, four: usize);
     fn calls_report(table: *const u64, cells: usize, out: *mut u8, room: usize, said: *mut u64, four: usize);
+    fn calls_answer_road(bytes: *const u8, length: usize, question: u64, allowance: u64, out: *mut u8, room: usize, said: *mut u64, four: usize);
     fn calls_road(bytes: *const u8, length: usize, out: *mut u8, room: usize, said: *mut u64, four: usize);
     fn calls_log(bytes: *const u8, length: usize, out: *mut u8, room: usize, said: *mut u64, four: usize);
     fn calls_sheet(table: *const u64, cells: usize, register: u64, allowance: u64, out: *mut u8, room: usize, said: *mut u64, four: usize);
@@ -76,6 +77,11 @@ pub fn summary(table: &[u64], list: &mut [u64]) -> Answer {
 
 pub fn report(table: &[u64], out: &mut [u8]) -> Answer {
     answered(|said, four| unsafe { calls_report(table.as_ptr(), table.len(), out.as_mut_ptr(), out.len(), said, four) })
+}
+
+pub fn answer_road(bytes: &[u8], question: u64, allowance: u64, out: &mut [u8]) -> Answer {
+    let (text, room) = (out.as_mut_ptr(), out.len());
+    answered(|said, four| unsafe { calls_answer_road(bytes.as_ptr(), bytes.len(), question, allowance, text, room, said, four) })
 }
 
 pub fn road(bytes: &[u8], out: &mut [u8]) -> Answer {

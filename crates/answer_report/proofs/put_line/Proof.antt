@@ -35,7 +35,7 @@ same-length-3 : tie.Need-same-length-3
 same-length-3 c = search needs
 
 same-length-4 : tie.Need-same-length-4
-same-length-4 c = let a = c .before .before .before .before .before .before .before .before .before .before .before .before .before .before .before .before .before .before .before .before .args in c .before .before .put .kept .1 .0 ∙ length-set (a .list .now) (a .at) (a .register)
+same-length-4 c = let a = c .before .before .before .before .before .before .before .before .before .before .before .before .before .before .before .before .before .before .before .before .args in c .before .before .put .kept .1 .0 ∙ length-set (a .list .now) (a .at) _
 
 returns : tie.Need-returns
 returns c = line-stored _ _ _ _ _ _ _ _ (c .before .before .before .before .before .before .before .before .before .before .answer-in .ensures) (c .before .before .put .ensures)
