@@ -26,10 +26,14 @@ header =
 unfoldable pub lineOf : List ℕ → ℕ → ℕ → ℕ → List ℕ
 lineOf t question allowance register = register ∷ fields t question allowance register
 
+-- those of each of a list of registers
+abbrev pub numbersOf : List ℕ → ℕ → ℕ → List ℕ → List ℕ
+numbersOf t question allowance registers = flatMap (lineOf t question allowance) registers
+
 -- the header, and a line for each register, ascending; or the line of the refusal where there is no such question
 unfoldable pub answersText : ℕ → ℕ → List ℕ → List ℕ
 answersText question allowance t =
-    let lines = linesOf 5 (length (registers t)) (flatMap (lineOf t question allowance) (registers t)) in
+    let lines = linesOf 5 (length (registers t)) (numbersOf t question allowance (registers t)) in
     cond (noQuestion question) (refusedLine (refused no-such-question 0)) (header ++ lines)
 
 -- what the code on each line says

@@ -2,7 +2,6 @@
 use history::Answer;
 use history::Row;
 ghost use mathlib.Core.Path.{_≡_};
-ghost use mathlib.Core.List.{flatMap};
 ghost use Prim.Native.Nat.{_+_, _*_, _≤_};
 ghost use lib.ListN.{length};
 ghost use lib.Seq.{sets};
@@ -14,7 +13,7 @@ ghost use Rattle.printing.specs.Files.{fileText};
 ghost use Rattle.marker.specs.Called.{Asked};
 ghost use Rattle.grouping.specs.Grouped.{byRegister};
 ghost use Rattle.roads.specs.Examined.{Sound};
-ghost use Rattle.answer_report.specs.Text.{lineOf, answersText, Meant};
+ghost use Rattle.answer_report.specs.Text.{lineOf, numbersOf, answersText, Meant};
 
 // The numbers of a line.
 const LINE: usize = 5;
@@ -74,7 +73,7 @@ fn put_lines(
     requires { ⌜ rowCount (now table) ≤ length (now rows) ⌝ }
     requires { ⌜ length (now order) ≡ largestCount ⌝ }
     requires { ⌜ length (now registers) * 5 ≤ length (now list) ⌝ }
-    ensures { λ _. ⌜ now (list .exit) ≡ written (flatMap (lineOf (now (table .entry)) question allowance) (now (registers .entry))) (now (list .entry)) ⌝ }
+    ensures { λ _. ⌜ now (list .exit) ≡ written (numbersOf (now (table .entry)) question allowance (now (registers .entry))) (now (list .entry)) ⌝ }
 {
     let mut i: usize = 0;
     while i < registers.len() {

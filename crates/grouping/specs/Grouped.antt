@@ -10,7 +10,7 @@ use lib.ListN.{length, getD, take, drop}
 use Rattle.lists.specs.Lists.{upTo}
 use Rattle.lists.specs.Sorts.{sort}
 use Rattle.history.specs.Table.{rowCount}
-use Rattle.grouping.specs.Registers.{registerAt, registerColumn}
+use Rattle.grouping.specs.Registers.{registerAt, registerColumn, registers}
 
 -- the register of row i is no higher than that of row j
 abbrev pub noHigher : List ℕ → ℕ → ℕ → Bool
@@ -24,6 +24,14 @@ byRegister t = sort (noHigher t) (upTo (rowCount t))
 pub record Grouped (t keys rows : List ℕ) : Type 0 where
   pub keyed : keys ≡ registerColumn t
   pub grouped : rows ≡ byRegister t
+
+-- so many numbers at the front of a list are these, and all of them
+abbrev pub Front : ℕ → List ℕ → List ℕ → Type 0
+Front count list numbers = (count ≡ length numbers) × (take count list ≡ numbers)
+
+-- those are the registers of whatever table is grouped so
+abbrev pub Lists : List ℕ → List ℕ → ℕ → List ℕ → Type 0
+Lists keys rows count list = (t : List ℕ) → Grouped t keys rows → Front count list (registers t)
 
 -- the register of the row at a place
 abbrev pub registerOf : List ℕ → List ℕ → ℕ → ℕ

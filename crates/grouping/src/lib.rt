@@ -1,12 +1,11 @@
 // The rows of a table by register: its registers, ascending, and the rows of each, without a pass over the table for each.
 use history::Row;
 ghost use mathlib.Core.Path.{_≡_};
-ghost use Prim.Native.Nat.{ℕ, _+_, _*_, _≤_};
-ghost use mathlib.Core.List.{List};
-ghost use lib.ListN.{length, take};
+ghost use Prim.Native.Nat.{_+_, _*_, _≤_};
+ghost use lib.ListN.{length};
 ghost use Rattle.history.specs.Table.{rowCount, rowsOf};
-ghost use Rattle.grouping.specs.Registers.{registerAt, registerColumn, distinct, registers};
-ghost use Rattle.grouping.specs.Grouped.{byRegister, Grouped, Sought, Run};
+ghost use Rattle.grouping.specs.Registers.{registerAt, registerColumn, distinct};
+ghost use Rattle.grouping.specs.Grouped.{byRegister, Grouped, Front, Lists, Sought, Run};
 
 // The register of each row.
 fn column(table: &[u64], keys: &mut [u64])
@@ -80,7 +79,7 @@ fn run(table: &[u64], grouped: &[u64], register: u64, from: usize, list: &mut [u
 pub fn rows_of(table: &[u64], grouped: &[u64], register: u64, list: &mut [u64]) -> usize
     requires { ⌜ now grouped ≡ byRegister (now table) ⌝ }
     requires { ⌜ rowCount (now table) ≤ length (now list) ⌝ }
-    ensures { λ r. ⌜ (r ≡ length (rowsOf (now (table .entry)) register)) × (take r (now (list .exit)) ≡ rowsOf (now (table .entry)) register) ⌝ }
+    ensures { λ r. ⌜ Front r (now (list .exit)) (rowsOf (now (table .entry)) register) ⌝ }
 {
     let from = seek(table, grouped, register);
     run(table, grouped, register, from, list)
@@ -88,7 +87,7 @@ pub fn rows_of(table: &[u64], grouped: &[u64], register: u64, list: &mut [u64]) 
 
 // Each number of a rising list once, at its front; how many there are.
 fn distinct(list: &mut [u64]) -> usize
-    ensures { λ r. ⌜ (r ≡ length (distinct (now (list .entry)))) × (take r (now (list .exit)) ≡ distinct (now (list .entry))) ⌝ }
+    ensures { λ r. ⌜ Front r (now (list .exit)) (distinct (now (list .entry))) ⌝ }
 {
     let n = list.len();
     if n < 1 {
@@ -112,7 +111,7 @@ fn distinct(list: &mut [u64]) -> usize
 // The registers of a table, ascending, at the front of the list, which has a place for each row; how many there are.
 pub fn registers(keys: &[u64], grouped: &[u64], list: &mut [u64]) -> usize
     requires { ⌜ length (now list) ≡ length (now grouped) ⌝ }
-    ensures { λ r. ⌜ ((t : List ℕ) → Grouped t (now (keys .entry)) (now (grouped .entry)) → (r ≡ length (registers t)) × (take r (now (list .exit)) ≡ registers t)) ⌝ }
+    ensures { λ r. ⌜ Lists (now (keys .entry)) (now (grouped .entry)) r (now (list .exit)) ⌝ }
 {
     columns::rows_at(keys, grouped, list);
     distinct(list)

@@ -23,7 +23,7 @@ use Rattle.marks.specs.Marks.{answerTo}
 use Rattle.marks.proofs.Places.{same-answer}
 use Rattle.marks.proofs.Saying.{places, answer-said, never-ten}
 use Rattle.grouping.proofs.Entries.{flat-long, flat-at}
-use Rattle.roads.specs.Answers.{fields, answersOf, answersTests, answersAnswer, answersList, Single}
+use Rattle.roads.specs.Answers.{fields, answersOf, answersTests, answersAnswer, answersList, Single, Each}
 
 -- m numbers at the front of a list are as many as are taken
 pub own-front : (m : ℕ) (list numbers : List ℕ) → (m ≡ length numbers) × (take m list ≡ numbers) → m ≡ length (take m list)
@@ -121,7 +121,7 @@ module _ (t registers : List ℕ) (question allowance : ℕ) (list : List ℕ) w
             (e ∙ sym (rw (p, q, asked, r) refl), k ∙ sym (rw (p, q, asked, r) refl))
 
   -- WHAT THE NUMBERS OF EACH REGISTER ARE AND SAY
-  module _ (a : Answer) (after : List ℕ) (left : Left a after) (i : ℕ) (z : a .code ≡ 0) (h : i < length registers) where
+  module _ (a : Answer) (after : List ℕ) (left : Left a after) (z : a .code ≡ 0) (i : ℕ) (h : i < length registers) where
     abbrev register : ℕ
     register = getD registers i 0
 
@@ -188,5 +188,5 @@ module _ (t registers : List ℕ) (question allowance : ℕ) (list : List ℕ) w
   -- THE CONTRACT, from the answer and the list after the call
   pub promised : (a : Answer) (after : List ℕ) → Left a after →
       (a ≡ answersAnswer t registers question list)
-      × ((after ≡ answersList t registers question allowance list) × ((i : ℕ) → a .code ≡ 0 → i < length registers → Single t (getD registers i 0) question allowance after i))
+      × ((after ≡ answersList t registers question allowance list) × (a .code ≡ 0 → Each t registers question allowance after))
   promised a after left = (left .0, (left .1, single a after left))

@@ -1,6 +1,6 @@
 -- A whole road in one call: four numbers a listed register (document 02, W-204), and the call that writes them.
 -- Assumes nothing.
-use Prim.Native.Nat.{ℕ, _*_, _/_, _%_, _≤_}
+use Prim.Native.Nat.{ℕ, _*_, _/_, _%_, _≤_, _<_}
 use mathlib.Core.Path.{_≡_}
 use mathlib.Core.Logic.{_≢_}
 use mathlib.Core.Bool.{cond, not}
@@ -45,3 +45,7 @@ pub record Single (t : List ℕ) (register question allowance : ℕ) (list : Lis
   pub single : (l : List ℕ) → length (history t register) ≤ length l → take 4 (drop (i * 4) list) ≡ numbers (mark t register question allowance l .answer)
   pub said : Ample question allowance → Said t register question (getD list (i * 4) 0)
   pub room : getD list (i * 4) 0 ≢ number short-list
+
+-- the same of each listed register at its place
+abbrev pub Each : List ℕ → List ℕ → ℕ → ℕ → List ℕ → Type 0
+Each t registers question allowance list = (i : ℕ) → i < length registers → Single t (getD registers i 0) question allowance list i

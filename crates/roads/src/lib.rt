@@ -2,8 +2,8 @@
 use history::Answer;
 use history::Row;
 ghost use mathlib.Core.Path.{_≡_};
-ghost use Prim.Native.Nat.{ℕ, _+_, _*_, _≤_, _<_};
-ghost use lib.ListN.{length, getD};
+ghost use Prim.Native.Nat.{ℕ, _+_, _*_, _≤_};
+ghost use lib.ListN.{length};
 ghost use lib.Seq.{sets};
 ghost use Rattle.history.specs.Table.{largestCount, rowCount};
 ghost use Rattle.history.specs.Answer.{numbers};
@@ -11,8 +11,8 @@ ghost use Rattle.methods.specs.Mark.{written};
 ghost use Rattle.marker.specs.Called.{Asked};
 ghost use Rattle.marks.specs.Marks.{answerTo};
 ghost use Rattle.grouping.specs.Grouped.{byRegister};
-ghost use Rattle.roads.specs.Answers.{answersOf, answersAnswer, answersList, Single};
-ghost use Rattle.roads.specs.Examined.{Sound, RowsOf, Examined};
+ghost use Rattle.roads.specs.Answers.{answersOf, answersAnswer, answersList, Each};
+ghost use Rattle.roads.specs.Examined.{Sound, RowsOf, Examined, Examines, Answers, AnswersRows};
 
 // The numbers of a register: the fields of an answer.
 pub const FIELDS: usize = 4;
@@ -23,7 +23,7 @@ pub fn examine(table: &[u64], keys: &mut [u64], rows: &mut [u64]) -> Answer
     requires { ⌜ Sound (now table) ⌝ }
     requires { ⌜ ((register : ℕ) × RowsOf (now table) register (now rows)) ⌝ }
     requires { ⌜ rowCount (now table) ≤ length (now keys) ⌝ }
-    ensures { λ r. ⌜ ((register : ℕ) → RowsOf (now (table .entry)) register (now (rows .entry)) → Examined (now (table .entry)) register r (now (rows .exit))) ⌝ }
+    ensures { λ r. ⌜ Examines (now (table .entry)) (now (rows .entry)) r (now (rows .exit)) ⌝ }
 {
     let met = screening::examine_listed(table, rows);
     if met.code == 0 {
@@ -45,7 +45,7 @@ pub fn answer(
     requires { ⌜ ((register : ℕ) × Examined (now table) register met (now rows)) ⌝ }
     requires { ⌜ Asked question ⌝ }
     requires { ⌜ length (now list) ≡ largestCount ⌝ }
-    ensures { λ r. ⌜ ((register : ℕ) → Examined (now (table .entry)) register met (now (rows .entry)) → r ≡ answerTo (now (table .entry)) register question allowance) ⌝ }
+    ensures { λ r. ⌜ Answers (now (table .entry)) met (now (rows .entry)) question allowance r ⌝ }
 {
     if met.code != 0 {
         return met;
@@ -67,7 +67,7 @@ fn answer_rows(
     requires { ⌜ rowCount (now table) ≤ length (now keys) ⌝ }
     requires { ⌜ ((register : ℕ) × RowsOf (now table) register (now rows)) ⌝ }
     requires { ⌜ length (now list) ≡ largestCount ⌝ }
-    ensures { λ r. ⌜ ((register : ℕ) → RowsOf (now (table .entry)) register (now (rows .entry)) → r ≡ answerTo (now (table .entry)) register question allowance) ⌝ }
+    ensures { λ r. ⌜ AnswersRows (now (table .entry)) (now (rows .entry)) question allowance r ⌝ }
 {
     let met = examine(table, keys, rows);
     answer(table, rows, met, question, allowance, list)
@@ -214,7 +214,7 @@ pub fn answers(
 ) -> Answer
     ensures answer { λ r. ⌜ r ≡ answersAnswer (now (table .entry)) (now (registers .entry)) question (now (list .entry)) ⌝ }
     ensures list { λ _. ⌜ now (list .exit) ≡ answersList (now (table .entry)) (now (registers .entry)) question allowance (now (list .entry)) ⌝ }
-    ensures said { λ r. ⌜ ((i : ℕ) → r .code ≡ 0 → i < length (now (registers .entry)) → Single (now (table .entry)) (getD (now (registers .entry)) i 0) question allowance (now (list .exit)) i) ⌝ }
+    ensures said { λ r. ⌜ (r .code ≡ 0 → Each (now (table .entry)) (now (registers .entry)) question allowance (now (list .exit))) ⌝ }
 {
     if table.len() % Row::COLUMNS != 0 {
         return Answer::refused(Answer::RAGGED, 0);

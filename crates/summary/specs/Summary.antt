@@ -1,6 +1,7 @@
 -- The numbers of the report, five a register (document 01, "Files, program, C host"), and the call that writes them.
 -- Assumes nothing.
 use Prim.Native.Nat.{ℕ, _+_, _*_, _%_}
+use mathlib.Core.Path.{_≡_}
 use mathlib.Core.Bool.{cond, not}
 use mathlib.Core.List.{List, [], _∷_, _++_, flatMap}
 use lib.Dec.{ltb, eqb}
@@ -36,6 +37,9 @@ summaryAnswer t list = firstMet (summaryTests t (length list)) (passed (length (
 
 unfoldable pub summaryList : List ℕ → List ℕ → List ℕ
 summaryList t list = cond (eqb (summaryAnswer t list .code) (number fresh)) (written (summaryOf t) list) list
+
+abbrev pub Summed : List ℕ → List ℕ → Answer → List ℕ → Type 0
+Summed t list a after = (a ≡ summaryAnswer t list) × (after ≡ summaryList t list)
 
 -- what the two marks of a register say
 pub record Meant (t : List ℕ) (register : ℕ) : Type 0 where

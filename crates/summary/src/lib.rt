@@ -10,7 +10,7 @@ ghost use Rattle.history.specs.Table.{largestCount, rowCount};
 ghost use Rattle.methods.specs.Mark.{written};
 ghost use Rattle.grouping.specs.Grouped.{byRegister};
 ghost use Rattle.roads.specs.Examined.{Sound, RowsOf};
-ghost use Rattle.summary.specs.Summary.{entry, summaryAnswer, summaryList, Tells};
+ghost use Rattle.summary.specs.Summary.{entry, Summed, Tells};
 
 const ZONES: u64 = 1;
 
@@ -127,7 +127,7 @@ fn summary_with(
     requires { ⌜ length (now found) ≡ rowCount (now table) ⌝ }
     requires { ⌜ rowCount (now table) ≤ length (now rows) ⌝ }
     requires { ⌜ length (now order) ≡ largestCount ⌝ }
-    ensures { λ r. ⌜ (r ≡ summaryAnswer (now (table .entry)) (now (list .entry))) × (now (list .exit) ≡ summaryList (now (table .entry)) (now (list .entry))) ⌝ }
+    ensures { λ r. ⌜ Summed (now (table .entry)) (now (list .entry)) r (now (list .exit)) ⌝ }
 {
     grouping::group(table, keys, grouped);
     let m = grouping::registers(keys, grouped, found);
@@ -140,7 +140,7 @@ fn summary_with(
 
 // The summary of a table: five numbers a register, ascending, at the front of the list.
 pub fn summary(table: &[u64], list: &mut [u64]) -> Answer
-    ensures outcome { λ r. ⌜ (r ≡ summaryAnswer (now (table .entry)) (now (list .entry))) × (now (list .exit) ≡ summaryList (now (table .entry)) (now (list .entry))) ⌝ }
+    ensures outcome { λ r. ⌜ Summed (now (table .entry)) (now (list .entry)) r (now (list .exit)) ⌝ }
     ensures said { λ r. ⌜ ((i : ℕ) → r .code ≡ 0 → i < r .rows → Tells (now (table .entry)) (now (list .exit)) i) ⌝ }
 {
     if table.len() % Row::COLUMNS != 0 {
