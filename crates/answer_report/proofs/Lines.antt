@@ -2,23 +2,24 @@
 -- Assumes nothing.
 use Prim.Native.Nat.{ℕ, suc, _+_, _*_, _≤_}
 use mathlib.Core.Path.{_≡_, refl, sym, ap, ap₂, _∙_}
-use mathlib.Core.Bool.{true, false}
+use mathlib.Core.Bool.{Bool, true, false, cond}
 use mathlib.Core.List.{List, [], _∷_, _++_, flatMap, append-assoc}
 use native.Mathlib.Omega.{arith}
-use lib.ListN.{length, set, take, drop}
+use lib.ListN.{length, set, take, drop, length-append}
 use lib.Seq.{sets, take-at, drop-at}
 use Rattle.history.specs.declared.Answer.{Answer}
-use Rattle.history.specs.Table.{rowCount}
+use Rattle.history.specs.Table.{largestCount, rowCount}
 use Rattle.history.specs.Answer.{numbers, no-such-question, refused}
 use Rattle.methods.specs.Mark.{noQuestion, written}
 use Rattle.text.specs.Decimal.{line, linesOf}
-use Rattle.printing.specs.Texts.{textAnswer, textAfter, Printed, refusedLine}
+use Rattle.text.proofs.Joins.{line-length, lines-length}
+use Rattle.printing.specs.Texts.{textAnswer, textAfter, Printed, refusedWord, refusedLine}
 use Rattle.marks.specs.Marks.{answerTo}
 use Rattle.marks.proofs.Saying.{answer-said}
 use Rattle.grouping.specs.Registers.{registers}
-use Rattle.grouping.proofs.Entries.{flat-long}
+use Rattle.grouping.proofs.Ascending.{registers-few}
 use Rattle.roads.specs.Answers.{fields}
-use Rattle.answer_report.specs.Text.{header, lineOf, answersText, Meant}
+use Rattle.answer_report.specs.Text.{header, lineOf, numbersOf, answersText, Meant}
 
 pub line-long : (t : List ℕ) (question allowance register : ℕ) → length (lineOf t question allowance register) ≡ 5
 unfolding lineOf fields
@@ -67,3 +68,15 @@ module _ (t : List ℕ) (question allowance : ℕ) where
   pub text-refused : noQuestion question ≡ true → refusedLine (refused no-such-question 0) ≡ answersText question allowance t
   unfolding answersText
   text-refused n = sym (rw n refl)
+
+-- a text has at most 106 bytes for each of 1,024 registers, behind its header; that of a refusal is shorter
+pub text-bound : (t : List ℕ) (question allowance : ℕ) → rowCount t ≤ largestCount → length (answersText question allowance t) ≤ 108574
+unfolding answersText refusedLine
+text-bound t question allowance f = go (noQuestion question)
+  where
+    lines : List ℕ
+    lines = linesOf 5 (length (registers t)) (numbersOf t question allowance (registers t))
+
+    go : (b : Bool) → length (cond b (refusedLine (refused no-such-question 0)) (header ++ lines)) ≤ 108574
+    go true = omega (arith, length-append refusedWord (line (3 ∷ 0 ∷ [])), line-length (3 ∷ 0 ∷ []))
+    go false = omega (arith, f, length-append header lines, lines-length 5 (length (registers t)) (numbersOf t question allowance (registers t)), registers-few t)

@@ -105,7 +105,7 @@ pub fn put(answer: Answer, list: &mut [u64], at: usize)
 }
 
 // Those of each listed register, at the front of the list, with the rows by register; the other slices are for what is made on the way.
-pub fn put_answers(
+fn put_answers(
     table: &[u64],
     grouped: &[u64],
     registers: &[u64],
