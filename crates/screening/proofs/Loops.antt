@@ -58,7 +58,7 @@ module _ (t : List ℕ) (register : ℕ) (list₀ : List ℕ) where
 
 -- What is gathered are the register's rows: they can be examined, and their operations are its history.
 module _ (t : List ℕ) (register m : ℕ) (rows : List ℕ) (few : rowCount t ≤ largestCount) (g : (m ≡ length (rowsOf t register)) × (take m rows ≡ rowsOf t register)) where
-  pub gathered-few : m ≤ largestCount
+  gathered-few : m ≤ largestCount
   gathered-few = omega (arith, g .0, history-count t register, rows-few t register)
 
   gathered-long : length (take m rows) ≡ m

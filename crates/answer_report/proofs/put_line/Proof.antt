@@ -5,10 +5,6 @@ use Rattle.answer_report.proofs.Lines.{line-stored}
 use borrow.Author.Needs.{needs}
 use Rattle.answer_report.proofs.put_line.Statement.{statement}
 use Rattle.answer_report.proofs.put_line.Tie as tie
-use Rattle.answer_report.proofs.put_line.Reads as reads
-use Rattle.answer_report.proofs.put_line.Lts as lts
-use Rattle.roads.proofs.answer_in.Reads as answer-in-reads
-use Rattle.roads.proofs.put.Reads as put-reads
 
 answer-in-requires : tie.Need-answer-in-requires
 answer-in-requires c κs = let p = c .before .before .before .before .before .before .before .before .before .pre in (p .0, (p .1 .0, (p .1 .1 .0, (p .1 .1 .1 .0, (p .1 .1 .1 .1 .0, p .1 .1 .1 .1 .1 .0)))))

@@ -7,9 +7,6 @@ use Rattle.answer_report.specs.Text.{lineOf}
 use Rattle.answer_report.proofs.Lines.{line-long}
 use Rattle.answer_report.proofs.put_lines.Statement.{statement}
 use Rattle.answer_report.proofs.put_lines.Tie as tie
-use Rattle.answer_report.proofs.put_lines.Reads as reads
-use Rattle.answer_report.proofs.put_lines.Lts as lts
-use Rattle.answer_report.proofs.put_line.Reads as put-line-reads
 
 abbrev Inv-loop : tie.InvT-loop
 Inv-loop table grouped registers question allowance keys₀ rows₀ order₀ list₀ i₀ keys rows order list i =

@@ -9,13 +9,6 @@ use Rattle.answer_report.proofs.Lines.{text-printed, text-refused, mean
 use borrow.Author.Needs.{needs}
 use Rattle.answer_report.proofs.road.Statement.{statement}
 use Rattle.answer_report.proofs.road.Tie as tie
-use Rattle.answer_report.proofs.road.Reads as reads
-use Rattle.answer_report.proofs.road.Lts as lts
-use Rattle.answer_report.proofs.text.Reads as text-reads
-use Rattle.files.proofs.read.Reads as read-reads
-use Rattle.history.proofs.Answer.refused.Reads as refused-reads
-use Rattle.marker.proofs.unasked.Reads as unasked-reads
-use Rattle.printing.proofs.refusal.Reads as refusal-reads
 
 slice-aggregate-read : tie.Need-slice-aggregate-read
 slice-aggregate-read c = search needs

@@ -5,9 +5,6 @@ use Rattle.positions.proofs.Arrays.{zero-long}
 use borrow.Author.Needs.{needs}
 use Rattle.answer_report.proofs.text.Statement.{statement}
 use Rattle.answer_report.proofs.text.Tie as tie
-use Rattle.answer_report.proofs.text.Reads as reads
-use Rattle.answer_report.proofs.text.Lts as lts
-use Rattle.answer_report.proofs.text_with.Reads as text-with-reads
 
 array-borrow-prefix-keys : tie.Need-array-borrow-prefix-keys
 array-borrow-prefix-keys c = search needs

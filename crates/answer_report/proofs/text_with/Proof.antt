@@ -8,12 +8,6 @@ use Rattle.answer_report.proofs.Lines.{text-is, text-printed}
 use borrow.Author.Needs.{needs}
 use Rattle.answer_report.proofs.text_with.Statement.{statement}
 use Rattle.answer_report.proofs.text_with.Tie as tie
-use Rattle.answer_report.proofs.text_with.Reads as reads
-use Rattle.answer_report.proofs.text_with.Lts as lts
-use Rattle.answer_report.proofs.put_lines.Reads as put-lines-reads
-use Rattle.grouping.proofs.group.Reads as group-reads
-use Rattle.grouping.proofs.registers.Reads as registers-reads
-use Rattle.report.proofs.headed.Reads as headed-reads
 
 group-requires : tie.Need-group-requires
 group-requires c κs = search needs
