@@ -1,5 +1,5 @@
 //! Links the proved library: the folder of libhost.a, and of libcalls.a, which the sources name where they declare its calls, is target/staticlib
-//! of the repository, or VALGRIST_LIB. An earlier build, libbefore.a, lies in the folder VALGRIST_BEFORE.
+//! of the repository, or VALGRIST_LIB. An earlier build, libbefore_host.a and libbefore_calls.a, lies in the folder VALGRIST_BEFORE.
 use std::env;
 use std::path::PathBuf;
 
@@ -15,8 +15,9 @@ fn main() {
     println!("cargo:rustc-link-search=native={}", folder.display());
     println!("cargo:rustc-link-lib=static=host");
     if env::var_os("CARGO_FEATURE_BEFORE").is_some() {
-        let folder = env::var("VALGRIST_BEFORE").expect("the folder of libbefore.a");
-        println!("cargo:rerun-if-env-changed=VALGRIST_BEFORE\ncargo:rerun-if-changed={folder}/libbefore.a");
+        let folder = env::var("VALGRIST_BEFORE").expect("the folder of libbefore_host.a and libbefore_calls.a");
+        println!("cargo:rerun-if-env-changed=VALGRIST_BEFORE");
+        println!("cargo:rerun-if-changed={folder}/libbefore_host.a\ncargo:rerun-if-changed={folder}/libbefore_calls.a");
         println!("cargo:rustc-link-search=native={folder}");
     }
 }

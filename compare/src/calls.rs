@@ -1,10 +1,11 @@
 //! The library's calls on tables, lists and buffers, in plain Rust, each by the name that it has in `differ`.
 
 use crate::answer::{put, Answer, FIELDS};
-use crate::codes::{FRESH, SHORT_LIST, SPENT, STALE};
+use crate::clock;
+use crate::codes::{BAD_SPAN, FRESH, SHORT_LIST, SPENT, STALE};
 use crate::file::{push_record, table_of, MOST_ROWS};
 use crate::log;
-use crate::register::Register;
+use crate::register::{Register, LAST_STAMP};
 use crate::screening::screened;
 use crate::table::{self, row, whole, COLUMNS};
 use crate::text;
@@ -173,9 +174,14 @@ pub fn put_answer(answer: Answer, list: &mut [u64]) -> Answer {
     either(put(&answer.numbers(), list, 0))
 }
 
-/// A text that is a number: code 0 and the number as the count; else code 1.
+/// What a text says: code 0 and the number as the count; where it says none, code 1.
+fn said(number: Option<u64>) -> Answer {
+    number.map_or(Answer::refused(1, 0), Answer::passed)
+}
+
+/// A text that is a number.
 pub fn number(text: &[u8]) -> Answer {
-    text::number_in(text).map_or(Answer::refused(1, 0), Answer::passed)
+    said(text::number_in(text))
 }
 
 /// Numbers, one a line, until the text ends or the list is full: code 0 and their count; where a line is none, code 1.
@@ -184,4 +190,17 @@ pub fn numbers(text: &[u8], list: &mut [u64]) -> Answer {
         Some(numbers) => either(put(&numbers, list, numbers.len())),
         None => Answer::refused(1, 0),
     }
+}
+
+/// A stamp as clock time.
+pub fn clock_write(stamp: u64, text: &mut [u8]) -> Answer {
+    if stamp > LAST_STAMP {
+        return Answer::refused(BAD_SPAN, 0);
+    }
+    print(&clock::text_of(stamp), text)
+}
+
+/// A text that is a clock time.
+pub fn clock_read(text: &[u8]) -> Answer {
+    said(clock::stamp_in(text))
 }

@@ -1,4 +1,4 @@
-//! Random damage to the bytes of a file.
+//! Random damage to the bytes of a file, and to those of a text.
 
 use crate::file::{push_record, Row, MOST_ROWS, RECORD};
 use crate::random::Random;
@@ -79,5 +79,19 @@ fn pad(bytes: &mut Vec<u8>, random: &mut Random) {
     let register = random.next();
     while bytes.len() / RECORD < count {
         push_record(bytes, register, &some_row(random));
+    }
+}
+
+/// One change to a text: a byte left out, put in or another, the end cut off, or the last byte.
+pub fn damage_text(text: &mut Vec<u8>, random: &mut Random) {
+    let at = random.below(text.len().max(1) as u64) as usize;
+    let byte = [b',', b'\n', b'\r', b' ', b'0', b'w', b':', b'.', b'/', random.next() as u8][random.below(10) as usize];
+    match random.below(5) {
+        0 => text.truncate(at),
+        1 => text.insert(at, byte),
+        2 => drop(text.pop()),
+        3 if at < text.len() => drop(text.remove(at)),
+        _ if at < text.len() => text[at] = byte,
+        _ => {}
     }
 }

@@ -4,6 +4,8 @@
 
 pub mod answer;
 pub mod calls;
+pub mod clock;
+pub mod clocks;
 pub mod codes;
 pub mod damage;
 pub mod file;

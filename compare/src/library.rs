@@ -10,9 +10,15 @@ extern "C" {
 }
 
 #[cfg(feature = "before")]
-#[link(name = "before", kind = "static")]
+#[link(name = "before_host", kind = "static")]
 extern "C" {
     fn before_valgrist_mark(bytes: *const u8, length: usize, register: u64, question: u64) -> u64;
+}
+
+#[cfg(feature = "before")]
+#[link(name = "before_calls", kind = "static")]
+extern "C" {
+    fn before_calls_load(bytes: *const u8, length: usize, table: *mut u64, cells: usize, said: *mut u64, four: usize);
 }
 
 #[link(name = "calls", kind = "static")]
@@ -99,4 +105,11 @@ pub fn answers(table: &[u64], registers: &[u64], question: u64, allowance: u64, 
 pub fn load(log: &[u8], table: &mut [u64]) -> Answer {
     // SAFETY: as above.
     answered(|said, four| unsafe { calls_load(log.as_ptr(), log.len(), table.as_mut_ptr(), table.len(), said, four) })
+}
+
+/// The same by an earlier build.
+#[cfg(feature = "before")]
+pub fn load_before(log: &[u8], table: &mut [u64]) -> Answer {
+    // SAFETY: as above.
+    answered(|said, four| unsafe { before_calls_load(log.as_ptr(), log.len(), table.as_mut_ptr(), table.len(), said, four) })
 }

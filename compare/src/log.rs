@@ -1,6 +1,7 @@
-//! Logs with named columns (document 02, W-201).
+//! Logs with named columns (document 02, W-201), stamps in decimal or as clock time.
 
 use crate::answer::Answer;
+use crate::clock;
 use crate::codes::{HEADER_FAULT, OVERFULL, UNREADABLE_CELL};
 use crate::file::{MOST_ROWS, READ, WRITE};
 use crate::table::COLUMNS;
@@ -8,6 +9,8 @@ use crate::table::COLUMNS;
 /// The needed names, in the sequence of a row's numbers.
 pub const NAMES: [&[u8]; COLUMNS] = [b"register", b"kind", b"value", b"start", b"finish"];
 pub const KIND: usize = 1;
+pub const START: usize = 3;
+pub const FINISH: usize = 4;
 
 /// Which of a row's numbers a column has; none where it is skipped.
 type Column = Option<usize>;
@@ -48,6 +51,15 @@ fn number(cell: &[u8]) -> Option<u64> {
     (!cell.is_empty()).then_some(value)
 }
 
+/// The number that a cell of a needed column says.
+fn said(cell: &[u8], column: usize) -> Option<u64> {
+    match column {
+        KIND => kind(cell),
+        START | FINISH => number(cell).or_else(|| clock::stamp_in(cell)),
+        _ => number(cell),
+    }
+}
+
 /// The row of a data line that begins at an offset, or the offset of what cannot be read.
 fn row(line: &[u8], at: usize, columns: &[Column]) -> Result<[u64; COLUMNS], usize> {
     let mut row = [0; COLUMNS];
@@ -56,7 +68,7 @@ fn row(line: &[u8], at: usize, columns: &[Column]) -> Result<[u64; COLUMNS], usi
     let mut place = at;
     for cell in cells(line) {
         if let Some(&Some(column)) = columns.get(count) {
-            match if column == KIND { kind(cell) } else { number(cell) } {
+            match said(cell, column) {
                 Some(number) => row[column] = number,
                 None => fault = fault.or(Some(place)),
             }

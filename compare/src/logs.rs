@@ -1,8 +1,12 @@
-//! Random logs: histories of all shapes and sizes, with the columns in any sequence and others among them; damaged ones.
+//! Random logs: histories of all shapes and sizes, with the columns in any sequence and others among them, and stamps in either form; damaged ones.
 
+use crate::clock::text_of;
+use crate::clocks;
+use crate::damage::damage_text;
 use crate::file::MOST_ROWS;
-use crate::log::{KIND, NAMES};
+use crate::log::{FINISH, KIND, NAMES, START};
 use crate::random::Random;
+use crate::register::LAST_STAMP;
 use crate::shapes;
 use crate::table::COLUMNS;
 
@@ -30,16 +34,25 @@ fn decimal(number: u64, random: &mut Random) -> Vec<u8> {
     ["0".repeat(zeros), number.to_string()].concat().into_bytes()
 }
 
-/// A cell of a needed column that mostly cannot be read.
+/// A stamp as clock time where it is not too large, or in decimal.
+fn either_form(stamp: u64, random: &mut Random) -> Vec<u8> {
+    if stamp <= LAST_STAMP && random.one_in(2) {
+        return text_of(stamp).into_bytes();
+    }
+    decimal(stamp, random)
+}
+
+/// A cell of a needed column that mostly cannot be read; a right clock text can, as a stamp.
 fn bad_cell(random: &mut Random) -> Vec<u8> {
-    match random.below(4) {
+    match random.below(5) {
         0 => (u128::from(u64::MAX - 1) + u128::from(random.below(4))).to_string().into_bytes(),
         1 => (u128::from(random.next()) * 11).to_string().into_bytes(),
+        2 => clocks::text(random),
         _ => one_of(&[b"", b"W", b"R", b"o", b"w ", b"wr", b"1", b"-1", b"+1", b" 1", b"1 ", b"1.0", b"0x1", b"1\r", b"/", b":"], random).to_vec(),
     }
 }
 
-/// The cells of a random history in random columns.
+/// The cells of a random history in random columns; one in three has stamps in either form.
 fn grid(random: &mut Random) -> Grid {
     let mut columns: Vec<Option<usize>> = (0..COLUMNS).map(Some).collect();
     columns.resize(COLUMNS + random.below(4) as usize, None);
@@ -48,11 +61,13 @@ fn grid(random: &mut Random) -> Grid {
     }
     let header = columns.iter().map(|column| column.map_or_else(|| other_name(random), |number| NAMES[number].to_vec())).collect();
     let mut grid: Grid = vec![header];
+    let clock = random.one_in(3);
     for (register, row) in shapes::rows(random) {
         let numbers = [register, 0, row.value, row.start, row.finish];
         let mut cell = |column: &Option<usize>| match *column {
             None => other_cell(random),
             Some(KIND) => [if row.write { b'w' } else { b'r' }].to_vec(),
+            Some(stamp @ (START | FINISH)) if clock => either_form(numbers[stamp], random),
             Some(number) => decimal(numbers[number], random),
         };
         grid.push(columns.iter().map(&mut cell).collect());
@@ -89,20 +104,6 @@ fn pad(grid: &mut Grid, random: &mut Random) {
     }
 }
 
-/// One change to the bytes: one of them left out, put in or another, the end cut off, or the last line feed.
-fn damage(text: &mut Vec<u8>, random: &mut Random) {
-    let at = random.below(text.len().max(1) as u64) as usize;
-    let byte = [b',', b'\n', b'\r', b' ', b'0', b'w', random.next() as u8][random.below(7) as usize];
-    match random.below(5) {
-        0 => text.truncate(at),
-        1 => text.insert(at, byte),
-        2 => drop(text.pop()),
-        3 if at < text.len() => drop(text.remove(at)),
-        _ if at < text.len() => text[at] = byte,
-        _ => {}
-    }
-}
-
 /// A log: of the cells as they are, or with some of them changed, or some bytes.
 pub fn log(random: &mut Random) -> Vec<u8> {
     let mut grid = grid(random);
@@ -112,7 +113,7 @@ pub fn log(random: &mut Random) -> Vec<u8> {
     }
     let mut text: Vec<u8> = grid.iter().flat_map(|line| [&line.join(&b',')[..], b"\n"].concat()).collect();
     if faults == 1 {
-        (0..1 + random.below(3)).for_each(|_| damage(&mut text, random));
+        (0..1 + random.below(3)).for_each(|_| damage_text(&mut text, random));
     }
     text
 }

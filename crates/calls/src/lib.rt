@@ -23,6 +23,7 @@ ghost use Rattle.log_report.specs.Logs.{logText};
 ghost use Rattle.sheet.specs.Sheet.{sheetOf, examOf};
 ghost use Rattle.file_sheets.specs.Files.{benchOf, examFile};
 ghost use Rattle.parsing.specs.Numbers.{numberIn, linesIn, counted, stored};
+ghost use Rattle.clock.specs.Clock.{clockIn, writeAnswer as clockAnswer, writeText};
 ghost use Rattle.calls.specs.Calls.{Says, Prints, answerOf, numberAnswer, countAnswer};
 
 #[no_mangle]
@@ -293,4 +294,19 @@ pub extern "C" fn calls_numbers(text: &[u8], list: &mut [u64], to: &mut [u64])
     ensures { λ _. ⌜ Says (countAnswer (counted (linesIn (length (now (list .entry))) (now (text .entry))))) (now (to .entry)) (now (to .exit)) ⌝ }
 {
     count_answer(parsing::list(text, list)).write(to);
+}
+
+#[no_mangle]
+pub extern "C" fn calls_clock_write(stamp: u64, text: &mut [u8], to: &mut [u64])
+    ensures { λ _. ⌜ now (text .exit) ≡ writeText stamp (now (text .entry)) ⌝ }
+    ensures { λ _. ⌜ Says (clockAnswer stamp (now (text .entry))) (now (to .entry)) (now (to .exit)) ⌝ }
+{
+    clock::write(stamp, text).write(to);
+}
+
+#[no_mangle]
+pub extern "C" fn calls_clock_read(text: &[u8], to: &mut [u64])
+    ensures { λ _. ⌜ Says (numberAnswer (clockIn (now (text .entry)))) (now (to .entry)) (now (to .exit)) ⌝ }
+{
+    number_answer(clock::read(text)).write(to);
 }

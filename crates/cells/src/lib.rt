@@ -7,6 +7,7 @@ ghost use Prim.Native.Nat.{_+_};
 ghost use lib.Dec.{eqb, ltb};
 ghost use Rattle.parsing.specs.declared.Number.the-variants.{Is, Nothing};
 ghost use Rattle.parsing.specs.Numbers.{numberOf, says};
+ghost use Rattle.clock.specs.Clock.{stampIn};
 ghost use Rattle.cells.specs.Parts.{comma, feed, kindOf, same};
 ghost use Rattle.cells.specs.Steps.{cellAt, endOf, saying, commaAt};
 
@@ -91,6 +92,25 @@ pub fn number_cell(bytes: &[u8], at: usize) -> Cell
     Cell {
         end: at,
         number: Number::Nothing,
+    }
+}
+
+// The stamp of the cell that starts at `at`, in either form. The parts of clock time are counted from the cell's end.
+pub fn stamp_cell(bytes: &[u8], at: usize) -> Cell
+    ensures { λ r. ⌜ r ≡ saying (now (bytes .entry)) at (stampIn (cellAt (now (bytes .entry)) at)) ⌝ }
+{
+    let cell = number_cell(bytes, at);
+    let number = cell.number;
+    let end = cell.end;
+    let Number::Nothing = number else {
+        return cell;
+    };
+    if end <= at {
+        return cell;
+    }
+    Cell {
+        end: end,
+        number: clock::read(&bytes[at..end]),
     }
 }
 

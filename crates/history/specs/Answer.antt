@@ -18,7 +18,7 @@ pub data Code : Type 0 where
   overfull : Code  -- in reading a file or a log: the offset of the record or line
   no-such-question : Code
   bad-kind : Code  -- the lowest such row
-  bad-span : Code  -- the lowest such row
+  bad-span : Code  -- the lowest such row; in writing clock text 0 (02, W-205)
   twin-write : Code  -- the lowest such row
   orphan-read : Code  -- the lowest such read's row
   early-read : Code  -- the lowest such read's row

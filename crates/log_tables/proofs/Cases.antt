@@ -12,7 +12,8 @@ use Rattle.lists.specs.Pairs.{Pairs, nil, cons}
 use Rattle.lists.specs.Lists.{put, keep, all, first}
 use Rattle.history.specs.declared.Answer.{Answer}
 use Rattle.history.specs.Answer.{firstMet, passed, refusedBy}
-use Rattle.parsing.specs.Numbers.{isDigit, worth, held, says, numberOf, front, isNumber}
+use Rattle.parsing.specs.Numbers.{isDigit, worth, held, says, numberOf, numberIn, front, isNumber}
+use Rattle.clock.specs.Clock.{leadingZero, daysIn, fieldIn, withField, saidAt, clockIn, stampIn}
 use Rattle.cells.specs.Parts.{longer, parts, linesFrom, kindOf, same}
 use Rattle.headers.specs.Header.{registerName, kindName, valueName, startName, finishName, more, columnFrom, headerCells, width, namedFrom, isOnly, place, placesOf, complete, soundHeader}
 use Rattle.cells.specs.Grids.{joined, textOf}
@@ -80,7 +81,7 @@ cases =
     ∷ []
 
 pub known-logs : map (λ x. x .given) cases ≡ map (λ x. x .known) cases
-unfolding cases loadAnswer loadTable loadTests logTests lineTests logTable dataLines amount saidIn soundHeader complete placesOf place isOnly namedFrom headerCells columnFrom more same kindOf linesFrom parts longer isNumber front numberOf says held worth isDigit firstMet flatMap put keep all first
+unfolding cases loadAnswer loadTable loadTests logTests lineTests logTable dataLines amount saidIn soundHeader complete placesOf place isOnly namedFrom headerCells columnFrom more same kindOf linesFrom parts longer isNumber front stampIn clockIn saidAt withField fieldIn daysIn leadingZero numberIn numberOf says held worth isDigit firstMet flatMap put keep all first
 known-logs = refl
 
 -- Columns reversed: n - 1 .. 0 is an order of n columns.

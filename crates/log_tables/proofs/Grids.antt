@@ -26,7 +26,7 @@ use Rattle.headers.specs.declared.Column.{Column}
 use Rattle.headers.specs.declared.Column.the-variants.{Missing, Only, Repeated}
 use Rattle.headers.specs.declared.Columns.{Columns}
 use Rattle.headers.specs.Header.{registerName, kindName, valueName, startName, finishName, columnFrom, headerCells, width, columnOf, namedFrom, isOnly, place, placesOf, complete, soundHeader, columnsOf}
-use Rattle.log_tables.specs.Logs.{unreadable, rowOf, dataLines, lineTests, logTests, rowsOf, logTable, loadTests, loadAnswer, loadTable}
+use Rattle.log_tables.specs.Logs.{unreadable, rowOf, dataLines, lineTests, logTests, rowsOf, logTable, loadTests, loadAnswer, loadTable, LoadsAs}
 use Rattle.log_tables.specs.Grids.{NamesIn, Readable, Grid, rowsTable, GridLoads}
 use Rattle.log_tables.specs.Shuffled.{rowsIn}
 use Rattle.log_tables.proofs.Testing.{lines-coded}
@@ -258,3 +258,14 @@ module _ (bs table : List ℕ) (pass : Passes bs table) where
   pub loads-table : logTable bs ≡ rowsTable (columnsOf bs) (rowsIn bs)
   unfolding logTable
   loads-table = lines-rows (columnsOf bs) (dataLines bs)
+
+  -- A grid of as many rows and with the same table loads as the log does.
+  pub copy-loads : (names : List (List ℕ)) (rows : List (List (List ℕ))) (ps : Columns) → Grid names rows ps → length rows ≡ length (dataLines bs)
+      → rowsTable ps rows ≡ logTable bs → LoadsAs (textOf (names ∷ rows)) bs table
+  unfolding loadTable
+  copy-loads names rows ps g many same-table =
+      let copy = grid-loads names rows ps g table (omega (arith, many, pass .room)) in
+      let e = passes-loads bs table pass in (
+        copy .0 ∙ ap (λ (k : ℕ). passed k) many ∙ sym e,
+        copy .1 ∙ ap (λ (t : List ℕ). t ++ drop (length t) table) same-table ∙ ap (λ (a : Answer). after a (logTable bs) table) (sym e),
+      )

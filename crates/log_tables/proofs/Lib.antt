@@ -1,4 +1,4 @@
--- The text of a grid loads as the table of the grid, and so do its column-shuffled copies.
+-- The text of a grid loads as the table of the grid, and so do its column-shuffled copies and the copy with the stamps as clock time.
 pub mod Testing
 pub mod Places
 pub mod Cases
@@ -7,3 +7,5 @@ pub mod Grids
 pub mod Shuffling
 pub mod Room
 pub mod Texts
+pub mod Stamps
+pub mod Clocked

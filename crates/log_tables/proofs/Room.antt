@@ -83,7 +83,7 @@ module _ (bs table : List ℕ) (a : Answer) (loaded : List ℕ) (o : (a ≡ load
   long : length (logTable bs) ≡ a .rows * 5
   long = omega (arith, table-long bs, loaded-rows)
 
-  is-loaded : loaded ≡ logTable bs ++ drop (length (logTable bs)) table
+  pub is-loaded : loaded ≡ logTable bs ++ drop (length (logTable bs)) table
   unfolding loadTable
   is-loaded = o .1 ∙ after-fresh (loadAnswer bs table) (logTable bs) table zero
 

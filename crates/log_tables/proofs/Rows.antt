@@ -13,6 +13,7 @@ use Rattle.lists.specs.Lists.{upTo, first}
 use Rattle.lists.proofs.Members.{in-keep}
 use Rattle.lists.proofs.Maps.{map-in}
 use Rattle.lists.proofs.Ranges.{below-in, in-below}
+use Rattle.history.specs.declared.Row.{Row}
 use Rattle.history.specs.Table.{largestCount}
 use Rattle.history.proofs.Refusals.{NoFault, no-fault-left, no-fault-right}
 use Rattle.records.specs.Records.{cells}
@@ -87,6 +88,15 @@ pub lines-rows : (ps : Columns) (ls : List Part) → rowsOf ps ls ≡ rowsTable 
 unfolding flatMap
 lines-rows ps [] = refl
 lines-rows ps (l ∷ ls) = ap (λ (t : List ℕ). cells (rowOf ps (bytesOf (cellsOf l))) ++ t) (lines-rows ps ls)
+
+-- rows that are changed and say the same have the same table
+pub rows-same : (ps qs : Columns) (f : List (List ℕ) → List (List ℕ)) (rows : List (List (List ℕ)))
+    → ((r : List (List ℕ)) → In r rows → rowOf qs (f r) ≡ rowOf ps r) → rowsTable qs (map f rows) ≡ rowsTable ps rows
+unfolding flatMap
+rows-same ps qs f [] h = refl
+rows-same ps qs f (r ∷ rows) h =
+    ap (λ (x : Row). cells x ++ rowsTable qs (map f rows)) (h r (here refl))
+    ∙ ap (λ (t : List ℕ). cells (rowOf ps r) ++ t) (rows-same ps qs f rows (λ x m. h x (there m)))
 
 -- lines that pass test 2 are few
 module _ (bs : List ℕ) (ps : Columns) (w : ℕ) where

@@ -1,30 +1,25 @@
 -- A log that loads and its column-shuffled copy load as the same table.
 -- Assumes nothing.
-use Prim.Native.Nat.{ℕ, _+_, _<_}
-use mathlib.Core.Path.{_≡_, refl, sym, ap, _∙_}
-use mathlib.Core.List.{List, [], _∷_, _++_, map, flatMap, List·Memᴰ as In, List·Memᴰ·head as here, List·Memᴰ·tail as there}
+use Prim.Native.Nat.{ℕ, _<_}
+use mathlib.Core.Path.{_≡_, sym, ap, _∙_}
+use mathlib.Core.List.{List, [], map, List·Memᴰ as In}
 use native.Mathlib.Nat.{zero-add}
 use native.Mathlib.Omega.{arith}
 use lib.Dec.{eqb}
-use lib.ListN.{length, getD, drop, length-map}
+use lib.ListN.{length, getD, length-map}
 use Rattle.lists.proofs.Maps.{in-map}
-use Rattle.history.specs.declared.Answer.{Answer}
-use Rattle.history.specs.declared.Row.{Row}
-use Rattle.history.specs.Answer.{passed}
-use Rattle.records.specs.Records.{cells}
-use Rattle.files.specs.Files.{after}
 use Rattle.cells.specs.Parts.{comma, feed}
 use Rattle.cells.specs.Grids.{bytesOf, rearranged, laid}
 use Rattle.cells.proofs.Grids.{rearranged-free}
 use Rattle.headers.specs.declared.Column.the-variants.{Missing, Only}
 use Rattle.headers.specs.declared.Columns.{Columns}
 use Rattle.headers.specs.Header.{registerName, kindName, valueName, startName, finishName, columnFrom, headerCells, columnsOf}
-use Rattle.log_tables.specs.Logs.{rowOf, logTable, loadAnswer, loadTable}
-use Rattle.log_tables.specs.Grids.{NamesIn, Readable, Grid, rowsTable}
+use Rattle.log_tables.specs.Logs.{rowOf, loadAnswer}
+use Rattle.log_tables.specs.Grids.{NamesIn, Readable, Grid}
 use Rattle.log_tables.specs.Shuffled.{Reorders, rowsIn, shuffled, LoadsAlike}
 use Rattle.log_tables.proofs.Places.{placeIn, placed, Places, Holds, said-quiet, number-placed, named-placed, placed-named}
-use Rattle.log_tables.proofs.Rows.{told-said}
-use Rattle.log_tables.proofs.Grids.{loads-passes, passes-loads, place-below, names-hold, grid-loads, names-wide, rows-count, loads-grid, loads-table}
+use Rattle.log_tables.proofs.Rows.{told-said, rows-same}
+use Rattle.log_tables.proofs.Grids.{loads-passes, place-below, names-hold, names-wide, rows-count, loads-grid, loads-table, copy-loads}
 
 -- the needed columns in another order
 abbrev pub columnsIn : List ℕ → Columns → Columns
@@ -92,14 +87,6 @@ module _ (names : List (List ℕ)) (ps : Columns) (f : NamesIn names ps) (o : Li
         rw
         (by (ps .register) (holds .register), by (ps .kind) (holds .kind), by (ps .value) (holds .value), by (ps .start) (holds .start), by (ps .finish) (holds .finish))
 
-  rows-after : (rows : List (List (List ℕ))) → ((r : List (List ℕ)) → In r rows → Readable ps (length names) r)
-      → rowsTable (columnsIn o ps) (map (rearranged o) rows) ≡ rowsTable ps rows
-  unfolding flatMap
-  rows-after [] good = refl
-  rows-after (r ∷ rows) good =
-      ap (λ (x : Row). cells x ++ rowsTable (columnsIn o ps) (map (rearranged o) rows)) (row-after r (good r (here refl)))
-      ∙ ap (λ (t : List ℕ). cells (rowOf ps r) ++ t) (rows-after rows (λ x m. good x (there m)))
-
 -- A grid with its columns in another order loads too.
 pub grid-after : (names : List (List ℕ)) (rows : List (List (List ℕ))) (ps : Columns) → Grid names rows ps → (o : List ℕ) → Reorders (length names) o
     → Grid (rearranged o names) (map (rearranged o) rows) (columnsIn o ps)
@@ -117,18 +104,13 @@ grid-after names rows ps g o re =
 
 -- A log that loads and its column-shuffled copy load with the same answer, as the same table.
 pub shuffled-loads : (bs table : List ℕ) → loadAnswer bs table .code ≡ 0 → LoadsAlike bs table
-unfolding loadTable shuffled
+unfolding shuffled
 shuffled-loads bs table z o re =
     let p = loads-passes bs table z in
     let names = bytesOf (headerCells bs) in
     let rows = rowsIn bs in
     let g = loads-grid bs table p in
     let re′ : Reorders (length (bytesOf (headerCells bs))) o = rw (names-wide bs table p) re in
-    let many = length-map rows (rearranged o) in
-    let copy = grid-loads (rearranged o names) (map (rearranged o) rows) (columnsIn o (columnsOf bs)) (grid-after names rows (columnsOf bs) g o re′) table (omega (arith, many, rows-count bs table p, p .room)) in
-    let e = passes-loads bs table p in
-    let same-table : rowsTable (columnsIn o (columnsOf bs)) (map (rearranged o) rows) ≡ logTable bs =
-    rows-after names (columnsOf bs) (g .named) o re′ rows (g .readable) ∙ sym (loads-table bs table p) in (
-      copy .0 ∙ ap (λ (k : ℕ). passed k) (many ∙ rows-count bs table p) ∙ sym e,
-      copy .1 ∙ ap (λ (t : List ℕ). t ++ drop (length t) table) same-table ∙ ap (λ (a : Answer). after a (logTable bs) table) (sym e),
-    )
+    copy-loads bs table p (rearranged o names) (map (rearranged o) rows) (columnsIn o (columnsOf bs)) (grid-after names rows (columnsOf bs) g o re′)
+    (length-map rows (rearranged o) ∙ rows-count bs table p)
+    (rows-same (columnsOf bs) (columnsIn o (columnsOf bs)) (rearranged o) rows (λ r m. row-after names (columnsOf bs) (g .named) o re′ r (g .readable r m)) ∙ sym (loads-table bs table p))

@@ -1,4 +1,5 @@
--- Logs with named columns: the table and the answer of a loading, and column-shuffled copies.
+-- Logs with named columns: the table and the answer of a loading, column-shuffled copies, and stamps as clock time.
 pub mod Logs
 pub mod Grids
 pub mod Shuffled
+pub mod Stamps

@@ -18,20 +18,21 @@ use Rattle.files.specs.Files.{roomTest, after}
 use Rattle.parsing.specs.declared.Number.{Number}
 use Rattle.parsing.specs.declared.Number.the-variants.{Is, Nothing as NoNumber}
 use Rattle.parsing.specs.Numbers.{numberOf, isNumber, front}
+use Rattle.clock.specs.Clock.{stampIn}
 use Rattle.cells.specs.Parts.{Part, cellsOf, linesFrom, kindOf}
 use Rattle.cells.specs.Grids.{bytesOf}
 use Rattle.headers.specs.declared.Columns.{Columns}
 use Rattle.headers.specs.Header.{soundHeader, columnsOf, width}
 
--- What a cell says in column k: a kind, a number, or in a skipped column 0, whatever it holds (02, W-201, "Kind cells are w or r, those of the other
--- four one or more decimal digits").
+-- What a cell says in column k: a kind, a number, a stamp in either form, or in a skipped column 0, whatever it holds (02, W-201, "Kind cells are w or
+-- r, those of the other four one or more decimal digits"; W-205, "either form in a start or finish cell").
 unfoldable pub saidIn : Columns → ℕ → List ℕ → Number
 saidIn cs k t =
     cond (eqb k (cs .kind)) (kindOf t)
     (cond (eqb k (cs .register)) (numberOf t)
     (cond (eqb k (cs .value)) (numberOf t)
-    (cond (eqb k (cs .start)) (numberOf t)
-    (cond (eqb k (cs .finish)) (numberOf t) (Is 0)))))
+    (cond (eqb k (cs .start)) (stampIn t)
+    (cond (eqb k (cs .finish)) (stampIn t) (Is 0)))))
 
 -- what a line's cell says; and that it cannot be read (02, W-201, "a cell that cannot be read")
 abbrev pub said : Columns → Part → Number
@@ -105,3 +106,7 @@ loadTable bs table = after (loadAnswer bs table) (logTable bs) table
 -- A call's answer and the table after it are those of the loading.
 abbrev pub Loads : List ℕ → List ℕ → Answer → List ℕ → Type 0
 Loads bs table answer left = (answer ≡ loadAnswer bs table) × (left ≡ loadTable bs table)
+
+-- A copy of a log loads as the log does.
+abbrev pub LoadsAs : List ℕ → List ℕ → List ℕ → Type 0
+LoadsAs copy bs table = (loadAnswer copy table ≡ loadAnswer bs table) × (loadTable copy table ≡ loadTable bs table)

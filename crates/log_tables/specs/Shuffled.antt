@@ -1,14 +1,13 @@
 -- A log and its column-shuffled copy (document 02, W-201).
 -- Assumes nothing.
 use Prim.Native.Nat.{ℕ, _<_}
-use mathlib.Core.Path.{_≡_}
 use mathlib.Core.Logic.{_≢_}
 use mathlib.Core.List.{List, _∷_, map, List·Memᴰ as In}
 use Rattle.lists.specs.Pairs.{Pairs}
 use Rattle.cells.specs.Parts.{cellsOf}
 use Rattle.cells.specs.Grids.{bytesOf, textOf, rearranged}
 use Rattle.headers.specs.Header.{headerCells, width}
-use Rattle.log_tables.specs.Logs.{dataLines, loadAnswer, loadTable}
+use Rattle.log_tables.specs.Logs.{dataLines, LoadsAs}
 
 -- An order of n columns lists each of them once.
 pub record Reorders (n : ℕ) (o : List ℕ) : Type 0 where
@@ -32,4 +31,4 @@ abbrev pub LoadsAlike : List ℕ → List ℕ → Type 0
 LoadsAlike bs table =
     (o : List ℕ) →
     Reorders (width bs) o →
-    (loadAnswer (shuffled o bs) table ≡ loadAnswer bs table) × (loadTable (shuffled o bs) table ≡ loadTable bs table)
+    LoadsAs (shuffled o bs) bs table

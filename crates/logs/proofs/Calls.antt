@@ -23,7 +23,12 @@ use Rattle.headers.specs.declared.Columns.{Columns}
 use Rattle.headers.specs.declared.Header.{Header}
 use Rattle.headers.specs.Header.{width, soundHeader, columnsOf}
 use Rattle.headers.specs.Steps.{headerOf}
-use Rattle.log_tables.specs.Logs.{lineTests, rowsOf, dataLines, logTests, logTable, loadTests, loadAnswer, loadTable}
+use Rattle.log_tables.specs.Logs.{lineTests, rowsOf, dataLines, logTests, logTable, loadTests, loadAnswer, loadTable, Loads}
+use Rattle.log_tables.specs.Shuffled.{LoadsAlike}
+use Rattle.log_tables.specs.Stamps.{LoadsStamps, LoadsClocked}
+use Rattle.log_tables.proofs.Shuffling.{shuffled-loads}
+use Rattle.log_tables.proofs.Stamps.{stamps-load}
+use Rattle.log_tables.proofs.Clocked.{clocked-loads}
 use Rattle.logs.specs.Steps.{linesAnswer, LinesTested}
 use Rattle.log_tables.proofs.Testing.{length-rows, lines-coded}
 
@@ -129,3 +134,11 @@ module _ (bs table : List ℕ) where
     load-fault s r e =
         let f = fault-answer (is-sound ∙ s) in
         (e ∙ f, sym (after-refused (loadAnswer bs table) (logTable bs) table (λ z. omega (arith, code-of f z))))
+
+-- What the call promises beside its outcome, each by its theorem.
+pub load-clauses : (bs table : List ℕ) (r : Answer) (out : List ℕ) → Loads bs table r out
+    → Loads bs table r out × ((r .code ≡ 0 → LoadsAlike bs table) × ((r .code ≡ 0 → LoadsStamps bs out) × (r .code ≡ 0 → LoadsClocked bs table)))
+load-clauses bs table r out e = (
+  e,
+  (λ z. shuffled-loads bs table (code-of (sym (e .0)) z), (λ z. stamps-load bs table r out e z, λ z. clocked-loads bs table (code-of (sym (e .0)) z))),
+)

@@ -10,6 +10,8 @@ use lib.Dec.{eqb}
 use lib.ListN.{length, getD}
 use Rattle.parsing.specs.declared.Number.the-variants.{Is}
 use Rattle.parsing.specs.Numbers.{numberOf}
+use Rattle.clock.specs.Clock.{stampIn}
+use Rattle.clock.proofs.Forms.{stamp-none}
 use Rattle.cells.specs.Parts.{comma, parts, kindOf}
 use Rattle.cells.specs.Grids.{bytesOf, laid}
 use Rattle.cells.proofs.Grids.{parts-laid}
@@ -23,12 +25,12 @@ module _ (cs : Columns) where
   unfolding saidIn amount kindOf numberOf
   none-said k = go (eqb k (cs .kind)) (eqb k (cs .register)) (eqb k (cs .value)) (eqb k (cs .start)) (eqb k (cs .finish))
     where
-      go : (a b c d e : Bool) → amount (cond a (kindOf []) (cond b (numberOf []) (cond c (numberOf []) (cond d (numberOf []) (cond e (numberOf []) (Is 0)))))) ≡ 0
+      go : (a b c d e : Bool) → amount (cond a (kindOf []) (cond b (numberOf []) (cond c (numberOf []) (cond d (stampIn []) (cond e (stampIn []) (Is 0)))))) ≡ 0
       go true b c d e = refl
       go false true c d e = refl
       go false false true d e = refl
-      go false false false true e = refl
-      go false false false false true = refl
+      go false false false true e = ap amount stamp-none
+      go false false false false true = ap amount stamp-none
       go false false false false false = refl
 
   -- cells behind column c leave its number as it is

@@ -1,4 +1,5 @@
 -- A line's cells and the lines, one by one.
+pub mod Decimals
 pub mod Walking
 pub mod Filling
 pub mod Loading

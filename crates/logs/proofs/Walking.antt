@@ -11,15 +11,17 @@ use Rattle.lists.specs.declared.Found.the-variants.{At, Nothing}
 use Rattle.lists.specs.Lists.{first}
 use Rattle.history.specs.declared.Row.{Row}
 use Rattle.parsing.specs.declared.Number.{Number}
+use Rattle.parsing.specs.declared.Number.the-variants.{Is}
 use Rattle.parsing.specs.Numbers.{isNumber}
 use Rattle.cells.specs.declared.Cell.{Cell}
 use Rattle.cells.specs.Parts.{Part}
 use Rattle.cells.specs.Steps.{cellAt, endOf, saying, commaAt}
+use Rattle.cells.proofs.Reading.{cell-is}
 use Rattle.cells.proofs.Parting.{cells-last, cells-more, line-last, line-more, comma-within}
 use Rattle.headers.specs.declared.Columns.{Columns}
 use Rattle.logs.specs.declared.Line.{Line}
 use Rattle.log_tables.specs.Logs.{saidIn, unreadable, amount}
-use Rattle.logs.specs.Steps.{inColumn, rowFrom, noRow, withCell, orElse, walked}
+use Rattle.logs.specs.Steps.{SaysDecimal, inColumn, rowFrom, withCell, orElse, walked}
 
 -- a line walked
 line-is : (r s : Row) (m n e f : ℕ) (a b : Found) → r ≡ s → m ≡ n → e ≡ f → a ≡ b
@@ -33,17 +35,17 @@ or-step Nothing true at g = refl
 or-step Nothing false at g = refl
 
 module _ (bs : List ℕ) (cs : Columns) where
-  -- the line from a cell on, behind the row, the count and the fault of the cells before
-  pub record Walking (start : ℕ) (r : Row) (f : Found) (k at : ℕ) : Type 0 where
+  -- the line from a cell on, behind the row, the count and the fault of the cells before, gives what the whole walk gives
+  pub record Walking (whole : Line) (r : Row) (f : Found) (k at : ℕ) : Type 0 where
     pub within : at ≤ length bs
     pub count : k ≤ at
-    pub rest : walked bs cs noRow 0 start Nothing ≡ walked bs cs r k at f
+    pub rest : whole ≡ walked bs cs r k at f
 
-  pub walk-none : (start : ℕ) → start ≤ length bs → Walking start noRow Nothing 0 start
-  walk-none start h = record { within = h; count = omega arith; rest = refl }
+  pub walk-none : (r : Row) (k at : ℕ) → k ≤ at → at ≤ length bs → Walking (walked bs cs r k at Nothing) r Nothing k at
+  walk-none r k at c h = record { within = h; count = c; rest = refl }
 
   -- a cell that was read, its number, and the row and the fault with it
-  module _ (start : ℕ) (r : Row) (f : Found) (k at : ℕ) (g : Walking start r f k at)
+  module _ (whole : Line) (r : Row) (f : Found) (k at : ℕ) (g : Walking whole r f k at)
       (cell : Cell) (read : cell ≡ saying bs at (saidIn cs k (cellAt bs at)))
       (x : ℕ) (worth : x ≡ amount (cell .number)) (row : Row) (filled : row ≡ withCell cs r k x)
       (fault : Found) (found : fault ≡ orElse f (cond (not (isNumber (cell .number))) (At at) Nothing)) where
@@ -65,7 +67,7 @@ module _ (bs : List ℕ) (cs : Columns) where
     pub walk-above : at ≤ cell .end
     walk-above = omega (arith, ends)
 
-    pub walk-more : commaAt bs (cell .end) ≡ true → Walking start row fault (k + 1) (cell .end + 1)
+    pub walk-more : commaAt bs (cell .end) ≡ true → Walking whole row fault (k + 1) (cell .end + 1)
     unfolding walked inColumn first
     walk-more is =
         let c = cells-more bs at (cell .end) ends is k in
@@ -82,7 +84,7 @@ module _ (bs : List ℕ) (cs : Columns) where
               (ap (λ (ps : List Part). orElse f (first (λ p. p .at) (unreadable cs) ps)) c ∙ or-step f (not (isNumber (saidIn cs k (cellAt bs at)))) at _));
         }
 
-    pub walk-end : commaAt bs (cell .end) ≡ false → record { row = row; count = k + 1; end = cell .end; fault = fault } ≡ walked bs cs noRow 0 start Nothing
+    pub walk-end : commaAt bs (cell .end) ≡ false → record { row = row; count = k + 1; end = cell .end; fault = fault } ≡ whole
     unfolding walked inColumn first
     walk-end is =
         let c = cells-last bs at (cell .end) ends is k in
@@ -94,3 +96,16 @@ module _ (bs : List ℕ) (cs : Columns) where
         (omega (arith, ap length c))
         (line-last bs at (cell .end) ends is)
         (ap (λ (ps : List Part). orElse f (first (λ p. p .at) (unreadable cs) ps)) c)))
+
+  -- a cell that was read as a number says it, and is no fault
+  module _ (k at : ℕ) (cell : Cell) (g : SaysDecimal bs at cs k cell) (x : ℕ) (is : cell .number ≡ Is x) where
+    pub decimal-read : cell ≡ saying bs at (saidIn cs k (cellAt bs at))
+    decimal-read = cell-is _ _ _ _ (g .ends) (is ∙ sym (g .said x is))
+
+    pub decimal-worth : x ≡ amount (cell .number)
+    unfolding amount
+    decimal-worth = sym (ap amount is)
+
+    pub decimal-sound : Nothing ≡ orElse Nothing (cond (not (isNumber (cell .number))) (At at) Nothing)
+    unfolding isNumber
+    decimal-sound = sym (ap (λ (n : Number). orElse Nothing (cond (not (isNumber n)) (At at) Nothing)) is)

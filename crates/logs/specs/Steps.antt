@@ -2,7 +2,7 @@
 -- Assumes nothing.
 use Prim.Native.Nat.{ℕ, _+_, _*_, _≤_}
 use mathlib.Core.Path.{_≡_}
-use mathlib.Core.Bool.{cond, not}
+use mathlib.Core.Bool.{Bool, true, cond, not}
 use mathlib.Core.List.{List, [], _∷_, _++_, flatMap}
 use lib.Dec.{ltb, leb, eqb}
 use lib.ListN.{length, drop}
@@ -15,12 +15,24 @@ use Rattle.history.specs.declared.Row.{Row}
 use Rattle.history.specs.Table.{largestCount}
 use Rattle.history.specs.Answer.{overfull, unreadable-cell, Test, test, firstMet, passed}
 use Rattle.files.specs.Files.{roomTest, after}
+use Rattle.parsing.specs.declared.Number.the-variants.{Is}
 use Rattle.parsing.specs.Numbers.{front}
 use Rattle.cells.specs.Parts.{Part, linesFrom}
-use Rattle.cells.specs.Steps.{cellsFrom}
+use Rattle.cells.specs.declared.Cell.{Cell}
+use Rattle.cells.specs.Steps.{cellsFrom, cellAt, endOf}
 use Rattle.headers.specs.declared.Columns.{Columns}
 use Rattle.logs.specs.declared.Line.{Line}
-use Rattle.log_tables.specs.Logs.{said, unreadable, amount, atLine, lineTests, rowsOf}
+use Rattle.log_tables.specs.Logs.{saidIn, said, unreadable, amount, atLine, lineTests, rowsOf}
+
+-- column k holds numbers, stamps among them
+unfoldable pub holdsNumber : Columns → ℕ → Bool
+holdsNumber cs k =
+    cond (eqb k (cs .register)) true (cond (eqb k (cs .value)) true (cond (eqb k (cs .start)) true (eqb k (cs .finish))))
+
+-- A cell at an offset, read in column k without clock time: where it ends and, where it was read, what it says.
+pub record SaysDecimal (bs : List ℕ) (at : ℕ) (cs : Columns) (k : ℕ) (cell : Cell) : Type 0 where
+  pub ends : cell .end ≡ endOf bs at
+  pub said : (x : ℕ) → cell .number ≡ Is x → saidIn cs k (cellAt bs at) ≡ Is x
 
 -- the number in column c of some cells; x where they have no such column
 unfoldable pub inColumn : Columns → ℕ → ℕ → List Part → ℕ

@@ -19,7 +19,8 @@ ghost use Rattle.parsing.specs.Numbers.{isNumber};
 ghost use Rattle.cells.specs.Steps.{cellAt, saying};
 ghost use Rattle.log_tables.specs.Logs.{saidIn, amount, Loads};
 ghost use Rattle.log_tables.specs.Shuffled.{LoadsAlike};
-ghost use Rattle.logs.specs.Steps.{noRow, withCell, orElse, walked, walkedTests, LinesTested, LinesLoaded};
+ghost use Rattle.log_tables.specs.Stamps.{LoadsStamps, LoadsClocked};
+ghost use Rattle.logs.specs.Steps.{holdsNumber, SaysDecimal, noRow, withCell, orElse, walked, walkedTests, LinesTested, LinesLoaded};
 
 // A line that was walked: its row, the count of its cells, where it ends, and its first cell that cannot be read.
 pub struct Line {
@@ -43,9 +44,41 @@ fn read_cell(bytes: &[u8], at: usize, columns: Columns, k: usize) -> Cell
         return cells::number_cell(bytes, at);
     }
     if k == columns.start {
-        return cells::number_cell(bytes, at);
+        return cells::stamp_cell(bytes, at);
     }
     if k == columns.finish {
+        return cells::stamp_cell(bytes, at);
+    }
+    Cell {
+        end: cells::cell_end(bytes, at),
+        number: Number::Is(0),
+    }
+}
+
+// Whether column k holds numbers; stamps are among them.
+fn holds_number(columns: Columns, k: usize) -> bool
+    ensures { λ r. ⌜ r ≡ holdsNumber columns k ⌝ }
+{
+    if k == columns.register {
+        return true;
+    }
+    if k == columns.value {
+        return true;
+    }
+    if k == columns.start {
+        return true;
+    }
+    k == columns.finish
+}
+
+// What the cell at `at` says in column k, unless a stamp is clock time.
+fn decimal_cell(bytes: &[u8], at: usize, columns: Columns, k: usize) -> Cell
+    ensures { λ r. ⌜ SaysDecimal (now (bytes .entry)) at columns k r ⌝ }
+{
+    if k == columns.kind {
+        return cells::kind_cell(bytes, at);
+    }
+    if holds_number(columns, k) {
         return cells::number_cell(bytes, at);
     }
     Cell {
@@ -98,20 +131,14 @@ fn fault_at(fault: Found, number: Number, at: usize) -> Found
     }
 }
 
-// Walks the line that starts at `at`, once over its bytes.
-fn walk(bytes: &[u8], columns: Columns, at: usize) -> Line
-    requires { ⌜ at ≤ length (now bytes) ⌝ }
-    ensures { λ r. ⌜ r ≡ walked (now (bytes .entry)) columns noRow 0 at Nothing ⌝ }
+// Walks the line from the cell at `at` on, whose column is `count`, behind the row of the cells before it.
+fn walk_on(bytes: &[u8], columns: Columns, begun: Row, count: usize, at: usize) -> Line
+    requires { ⌜ (count ≤ at) × (at ≤ length (now bytes)) ⌝ }
+    ensures { λ r. ⌜ r ≡ walked (now (bytes .entry)) columns begun count at Nothing ⌝ }
 {
-    let mut row = Row {
-        register: 0,
-        kind: 0,
-        value: 0,
-        start: 0,
-        finish: 0,
-    };
+    let mut row = begun;
     let mut fault = Found::Nothing;
-    let mut k = 0;
+    let mut k = count;
     let mut from = at;
     loop {
         let cell = read_cell(bytes, from, columns, k);
@@ -126,6 +153,42 @@ fn walk(bytes: &[u8], columns: Columns, at: usize) -> Line
                 count: k,
                 end: end,
                 fault: fault,
+            };
+        }
+        from = end + 1;
+    }
+}
+
+// Walks the line that starts at `at`. Most lines have decimal stamps and no fault: their cells are walked by a loop that calls nothing, and from
+// another cell on `walk_on` goes on.
+fn walk(bytes: &[u8], columns: Columns, at: usize) -> Line
+    requires { ⌜ at ≤ length (now bytes) ⌝ }
+    ensures { λ r. ⌜ r ≡ walked (now (bytes .entry)) columns noRow 0 at Nothing ⌝ }
+{
+    let mut row = Row {
+        register: 0,
+        kind: 0,
+        value: 0,
+        start: 0,
+        finish: 0,
+    };
+    let mut k = 0;
+    let mut from = at;
+    loop {
+        let cell = decimal_cell(bytes, from, columns, k);
+        let number = cell.number;
+        let end = cell.end;
+        let Number::Is(x) = number else {
+            return walk_on(bytes, columns, row, k, from);
+        };
+        row = with_cell(row, columns, k, x);
+        k += 1;
+        if !cells::comma_at(bytes, end) {
+            return Line {
+                row: row,
+                count: k,
+                end: end,
+                fault: Found::Nothing,
             };
         }
         from = end + 1;
@@ -224,10 +287,12 @@ fn load_lines(
     answer
 }
 
-// Loads a log into the front of the table. Its copy with the columns in another order loads as the same table.
+// Loads a log into the front of the table. A copy of it with the columns in another order, or with the stamps as clock time, loads as the same table.
 pub fn load(bytes: &[u8], table: &mut [u64]) -> Answer
     ensures outcome { λ r. ⌜ Loads (now (bytes .entry)) (now (table .entry)) r (now (table .exit)) ⌝ }
     ensures shuffled { λ r. ⌜ (r .code ≡ 0 → LoadsAlike (now (bytes .entry)) (now (table .entry))) ⌝ }
+    ensures stamps { λ r. ⌜ (r .code ≡ 0 → LoadsStamps (now (bytes .entry)) (now (table .exit))) ⌝ }
+    ensures clocked { λ r. ⌜ (r .code ≡ 0 → LoadsClocked (now (bytes .entry)) (now (table .entry))) ⌝ }
 {
     let header = headers::read_header(bytes);
     if header.sound {

@@ -23,7 +23,7 @@ unfolding worth
 worth-snoc v [] c = refl
 worth-snoc v (b ∷ t) c = worth-snoc (v * 10 + (b - 48)) t c
 
-digit-is : (n : ℕ) → isDigit (digit n) ≡ true
+pub digit-is : (n : ℕ) → isDigit (digit n) ≡ true
 unfolding isDigit
 digit-is n = rw (le-ltb (digit n) 48 (omega arith), le-leb (digit n) 57 (omega arith))
 
@@ -37,7 +37,7 @@ all-snoc (b ∷ t) c h e = go (isDigit b) h (all-snoc t c)
     go true h next = next h e
     go false h next = h
 
-digits-digits : (f n : ℕ) → all isDigit (digits f n) ≡ true
+pub digits-digits : (f n : ℕ) → all isDigit (digits f n) ≡ true
 unfolding digits all
 digits-digits zero n = refl
 digits-digits (suc f) n = go (ltb n 10) (digits-digits f (n / 10))

@@ -40,7 +40,7 @@ pub fn appended(value: u64, byte: u8) -> Number
 }
 
 // The number that a text is: one or more decimal digits, worth at most 2 ^ 64 - 1.
-fn number_of(text: &[u8]) -> Number
+pub fn number_of(text: &[u8]) -> Number
     ensures { λ r. ⌜ r ≡ numberOf (now (text .entry)) ⌝ }
 {
     if text.len() < 1 {

@@ -25,7 +25,7 @@ fn put_digits(n: u64, most: usize, out: &mut [u8], at: usize) -> usize
 }
 
 // Writes n in decimal from `at` on; the place behind it.
-fn put_number(n: u64, out: &mut [u8], at: usize) -> usize
+pub fn put_number(n: u64, out: &mut [u8], at: usize) -> usize
     requires { ⌜ at + length (decimal n) ≤ length (now out) ⌝ }
     ensures { λ r. ⌜ (r ≡ at + length (decimal n)) × (now (out .exit) ≡ sets (now (out .entry)) at (decimal n)) ⌝ }
 {
@@ -83,7 +83,7 @@ pub fn put_line(numbers: &[u64], out: &mut [u8], at: usize) -> usize
 }
 
 // How many bytes n takes in decimal.
-fn decimal_length(n: u64) -> usize
+pub fn decimal_length(n: u64) -> usize
     ensures { λ r. ⌜ r ≡ length (decimal n) ⌝ }
 {
     let mut rest = n;

@@ -1,8 +1,10 @@
-// The histories with known marks of document 01, and logs with known tables, executed: a line for each call, name,code,row,rows,trials, and where
-// a list was lent a line with the list after the call; held to the file stdout.
+// The histories with known marks of document 01, logs with known tables and clock texts with known stamps, executed: a line for each call,
+// name,code,row,rows,trials, and where a list was lent a line with the list after the call; of a text that is read the text and its stamp; held to
+// the file stdout.
 use history::Answer;
 use history::Row;
 use libc::STDOUT_FILENO;
+use parsing::Number;
 
 const C2: [u64; 15] = [7, 1, 1, 1, 2, 7, 1, 2, 3, 4, 7, 2, 1, 5, 6];
 
@@ -566,6 +568,216 @@ fn log_limits() {
     );
 }
 
+// A stamp written as clock time, and the text after the call.
+fn stamp_written(name: &[u8], stamp: u64, text: &mut [u8]) {
+    show(name, clock::write(stamp, text));
+    io::write_all(STDOUT_FILENO, text);
+    io::write_all(STDOUT_FILENO, b"\n");
+}
+
+fn stamps_written() {
+    stamp_written(b"clock text of 0", 0, &mut [b'_'; 26]);
+    stamp_written(b"clock text of 999", 999, &mut [b'_'; 26]);
+    stamp_written(b"clock text of 1000", 1000, &mut [b'_'; 26]);
+    stamp_written(
+        b"clock text of a day less a thousandth",
+        86399999,
+        &mut [b'_'; 26],
+    );
+    stamp_written(b"clock text of a day", 86400000, &mut [b'_'; 26]);
+    stamp_written(
+        b"clock text of the largest stamp",
+        4611686018427387903,
+        &mut [b'_'; 26],
+    );
+    stamp_written(
+        b"clock text of a larger one",
+        4611686018427387904,
+        &mut [b'_'; 26],
+    );
+    stamp_written(
+        b"clock text of the largest number",
+        18446744073709551615,
+        &mut [b'_'; 26],
+    );
+}
+
+// Just enough room, and a byte too little; a stamp that is too large is told first.
+fn stamps_short() {
+    stamp_written(b"clock text of 0 in 14 bytes", 0, &mut [b'_'; 14]);
+    stamp_written(b"clock text of 0 in 13 bytes", 0, &mut [b'_'; 13]);
+    stamp_written(b"clock text of 0 in no byte", 0, &mut []);
+    stamp_written(
+        b"clock text of the largest stamp in 24 bytes",
+        4611686018427387903,
+        &mut [b'_'; 24],
+    );
+    stamp_written(
+        b"clock text of the largest stamp in 23 bytes",
+        4611686018427387903,
+        &mut [b'_'; 23],
+    );
+    stamp_written(
+        b"clock text of a larger one in no byte",
+        4611686018427387904,
+        &mut [],
+    );
+}
+
+// What a text says as clock time.
+fn clock_read(text: &[u8]) {
+    io::write_all(STDOUT_FILENO, text);
+    let Number::Is(stamp) = clock::read(text) else {
+        io::write_all(STDOUT_FILENO, b",none\n");
+        return;
+    };
+    field(stamp);
+    io::write_all(STDOUT_FILENO, b"\n");
+}
+
+fn clock_texts() {
+    clock_read(b"0:00:00:00.000");
+    clock_read(b"0:00:00:00.999");
+    clock_read(b"0:00:00:01.000");
+    clock_read(b"0:23:59:59.999");
+    clock_read(b"1:00:00:00.000");
+    clock_read(b"53375995583:15:36:27.903");
+}
+
+// Each range broken by one.
+fn clock_ranges() {
+    clock_read(b"0:24:00:00.000");
+    clock_read(b"0:00:60:00.000");
+    clock_read(b"0:00:00:60.000");
+    clock_read(b"0:00:00:00.1000");
+    clock_read(b"53375995583:15:36:27.904");
+    clock_read(b"53375995583:15:36:28.000");
+    clock_read(b"53375995583:15:37:00.000");
+    clock_read(b"53375995583:16:00:00.000");
+    clock_read(b"53375995584:00:00:00.000");
+}
+
+// Leading zeros, and days of many digits.
+fn clock_days() {
+    clock_read(b"00:00:00:00.000");
+    clock_read(b"01:00:00:00.000");
+    clock_read(b"053375995583:15:36:27.903");
+    clock_read(b"100000000000:00:00:00.000");
+    clock_read(b"18446744073709551615:00:00:00.000");
+    clock_read(b"18446744073709551616:00:00:00.000");
+    clock_read(b"213503982334601:00:00:00.000");
+    clock_read(b"9999999999999999999999999999999999999999:00:00:00.000");
+}
+
+// A digit too few, and one too many.
+fn clock_digits() {
+    clock_read(b"0:0:00:00.000");
+    clock_read(b"0:00:0:00.000");
+    clock_read(b"0:00:00:0.000");
+    clock_read(b"0:00:00:00.00");
+    clock_read(b"0:000:00:00.000");
+    clock_read(b"0:00:000:00.000");
+    clock_read(b"0:00:00:000.000");
+    clock_read(b"0:00:00:00.0000");
+}
+
+// An empty part, a part too few, and a further part.
+fn clock_parts() {
+    clock_read(b":00:00:00.000");
+    clock_read(b"0::00:00.000");
+    clock_read(b"0:00::00.000");
+    clock_read(b"0:00:00:.000");
+    clock_read(b"0:00:00:00.");
+    clock_read(b"00:00:00.000");
+    clock_read(b"0:00:00:00");
+    clock_read(b"0:0:00:00:00.000");
+    clock_read(b"0:00:00:00:00.000");
+    clock_read(b"0:00:00:00.000.000");
+    clock_read(b"0:00:00:00.000:00");
+}
+
+// Other bytes in the place of digits and separators.
+fn clock_bytes() {
+    clock_read(b"");
+    clock_read(b"86400000");
+    clock_read(b"0;00:00:00.000");
+    clock_read(b"0:00.00:00.000");
+    clock_read(b"0:00:00.00.000");
+    clock_read(b"0:00:00:00:000");
+    clock_read(b"0:00:00:00,000");
+    clock_read(b" 0:00:00:00.000");
+    clock_read(b"0:00:00:00.000 ");
+    clock_read(b"-0:00:00:00.000");
+    clock_read(b"0:+1:00:00.000");
+    clock_read(b"0:00:0 :00.000");
+    clock_read(b"0:00:00:0x.000");
+    clock_read(b"0:00:00:00.00/");
+    clock_read(b"a:00:00:00.000");
+}
+
+fn clock_logs() {
+    loaded(
+        b"clock log",
+        b"register,kind,value,start,finish\n7,w,1,0:00:00:02.000,53375995583:15:36:27.903\n",
+    );
+    loaded(
+        b"clock log of both forms",
+        b"register,kind,value,start,finish\n7,w,1,0:00:00:02.000,3\n7,r,1,4,1:00:00:00.000\n",
+    );
+    loaded(
+        b"clock log with its columns in another order",
+        b"finish,note,start,value,kind,register\n1:00:00:00.000,0:24:00:00.000,0:00:00:02.000,1,w,7\n",
+    );
+    loaded(
+        b"clock log with a decimal stamp over the largest",
+        b"register,kind,value,start,finish\n7,w,1,0:00:00:00.000,18446744073709551615\n",
+    );
+}
+
+// Where it is no clock time, the cell cannot be read; nor is clock time read in another column.
+fn clock_log_faults() {
+    loaded(
+        b"clock log with a start at hour 24",
+        b"register,kind,value,start,finish\n7,w,1,0:24:00:00.000,3\n",
+    );
+    loaded(
+        b"clock log with a finish over the largest stamp",
+        b"register,kind,value,start,finish\n7,w,1,2,53375995583:15:36:27.904\n",
+    );
+    loaded(
+        b"clock log with many days",
+        b"register,kind,value,start,finish\n7,w,1,9999999999999999999999999999999999999999:00:00:00.000,3\n",
+    );
+    loaded(
+        b"clock log with a leading zero",
+        b"register,kind,value,start,finish\n7,w,1,2,01:00:00:00.000\n",
+    );
+    loaded(
+        b"clock log with two digits of thousandths",
+        b"register,kind,value,start,finish\n7,w,1,2,0:00:00:03.00\n",
+    );
+    loaded(
+        b"clock log with two bad stamps",
+        b"register,kind,value,start,finish\n7,w,1,0:00:60:00.000,0:00:00:60.000\n",
+    );
+    loaded(
+        b"clock log with a carriage return",
+        b"register,kind,value,start,finish\n7,w,1,2,0:00:00:03.000\r\n",
+    );
+    loaded(
+        b"clock log with clock time as register",
+        b"register,kind,value,start,finish\n0:00:00:00.007,w,1,2,3\n",
+    );
+    loaded(
+        b"clock log with clock time as kind",
+        b"register,kind,value,start,finish\n7,0:00:00:00.001,1,2,3\n",
+    );
+    loaded(
+        b"clock log with clock time as value",
+        b"register,kind,value,start,finish\n7,w,0:00:00:00.001,2,3\n",
+    );
+}
+
 fn main() {
     histories();
     limits();
@@ -589,4 +801,14 @@ fn main() {
     log_kinds();
     log_tables();
     log_limits();
+    stamps_written();
+    stamps_short();
+    clock_texts();
+    clock_ranges();
+    clock_days();
+    clock_digits();
+    clock_parts();
+    clock_bytes();
+    clock_logs();
+    clock_log_faults();
 }

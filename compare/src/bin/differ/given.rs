@@ -7,7 +7,7 @@ use compare::file::{table_of, MOST_ROWS};
 use compare::random::Random;
 use compare::table::{registers, COLUMNS};
 use compare::tables::{road, table};
-use compare::{calls, histories, logs, shapes, ALLOWANCE};
+use compare::{calls, clocks, histories, logs, shapes, ALLOWANCE};
 
 /// What a call is given; each call takes some of it.
 #[derive(Debug, Default)]
@@ -21,6 +21,7 @@ pub struct Given {
     pub k: u64,
     pub list: Box<[u64]>,
     pub answer: Answer,
+    pub stamp: u64,
 }
 
 impl Given {
@@ -250,4 +251,13 @@ pub fn of_lines(random: &mut Random) -> Given {
         text.pop();
     }
     Given { bytes: text.into_boxed_slice(), ..Given::default() }
+}
+
+pub fn of_stamp(random: &mut Random) -> Given {
+    Given { stamp: clocks::stamp(random), ..Given::default() }
+}
+
+/// A text; about half of them are clock times.
+pub fn of_clock(random: &mut Random) -> Given {
+    Given { bytes: clocks::text(random).into_boxed_slice(), ..Given::default() }
 }

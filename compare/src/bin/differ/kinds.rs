@@ -4,7 +4,7 @@ use compare::answer::{Answer, FIELDS};
 use compare::file::{rows_of, RECORD};
 use compare::random::Random;
 use compare::table::{registers, COLUMNS};
-use compare::{calls, text};
+use compare::{calls, clock, text};
 
 use crate::given::{self, Given};
 use crate::lent::{Lent, Needed};
@@ -45,7 +45,7 @@ const OF_FILES: &[u64] = &[0, 2, 10, 16, 17];
 const OF_TABLES: &[u64] = &[0, 1, 2, 10];
 /// There is room, or there is not.
 const OF_ROOM: &[u64] = &[0, 10];
-/// A text is a number, or a list of them, or it is none.
+/// A text is a number, a list of them, or a clock time, or it is none.
 const OF_NUMBERS: &[u64] = &[0, 1];
 
 fn nothing(_: &Given) -> Needed {
@@ -56,7 +56,7 @@ fn printed(text: String) -> Needed {
     Needed::Bytes(text.len())
 }
 
-pub const KINDS: [Kind; 22] = [
+pub const KINDS: [Kind; 24] = [
     kind!(
         "marker::mark" gives &[0, 1, 2, 3, 4, 5, 7, 8, 9, 10, 11, 12], from given::of_register, needs |g| Needed::Numbers(g.rows());
         |g, lent| mark(&g.table, g.register, g.question, g.allowance, &mut lent.numbers)
@@ -145,6 +145,14 @@ pub const KINDS: [Kind; 22] = [
     kind!(
         "answer_report::road" gives OF_ROOM, from given::of_file_question, needs |g| printed(text::answers_of(&g.bytes, g.question, g.allowance));
         |g, lent| answer_road(&g.bytes, g.question, g.allowance, &mut lent.bytes)
+    ),
+    kind!(
+        "clock::write" gives &[0, 5, 10], from given::of_stamp, needs |g| printed(clock::text_of(g.stamp));
+        |g, lent| clock_write(g.stamp, &mut lent.bytes)
+    ),
+    kind!(
+        "clock::read" gives OF_NUMBERS, from given::of_clock, needs nothing;
+        |g, _lent| clock_read(&g.bytes)
     ),
 ];
 

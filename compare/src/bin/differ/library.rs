@@ -49,6 +49,8 @@ extern "C" {
     fn calls_put_answer(code: u64, row: u64, rows: u64, trials: u64, list: *mut u64, places: usize, said: *mut u64, four: usize);
     fn calls_number(text: *const u8, length: usize, said: *mut u64, four: usize);
     fn calls_numbers(text: *const u8, length: usize, list: *mut u64, places: usize, said: *mut u64, four: usize);
+    fn calls_clock_write(stamp: u64, text: *mut u8, length: usize, said: *mut u64, four: usize);
+    fn calls_clock_read(text: *const u8, length: usize, said: *mut u64, four: usize);
 }
 
 pub fn check(table: &[u64], register: u64, k: u64, list: &[u64]) -> Answer {
@@ -126,4 +128,12 @@ pub fn number(text: &[u8]) -> Answer {
 
 pub fn numbers(text: &[u8], list: &mut [u64]) -> Answer {
     answered(|said, four| unsafe { calls_numbers(text.as_ptr(), text.len(), list.as_mut_ptr(), list.len(), said, four) })
+}
+
+pub fn clock_write(stamp: u64, text: &mut [u8]) -> Answer {
+    answered(|said, four| unsafe { calls_clock_write(stamp, text.as_mut_ptr(), text.len(), said, four) })
+}
+
+pub fn clock_read(text: &[u8]) -> Answer {
+    answered(|said, four| unsafe { calls_clock_read(text.as_ptr(), text.len(), said, four) })
 }

@@ -1,5 +1,5 @@
 //! Compares the proved library's calls with the plain implementation's, on random input with fixed seeds: sound and malformed tables, sound and
-//! damaged files and logs, right and wrong orders, room enough and too little.
+//! damaged files and logs, right and wrong orders and clock texts, room enough and too little.
 //! `differ [CALLS]`: so many calls of the entry for C, and a fifth of that of every other call. An answer has four fields; the lent lists and
 //! buffers are compared whole, of refused calls too.
 //! Ends with status 1 where something differs, an order is not accepted, or a code that a call can give or list has not come.

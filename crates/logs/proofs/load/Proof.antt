@@ -1,9 +1,6 @@
--- A header's refusal, else that of the lines. The second clause is the theorem `shuffled-loads`.
-use mathlib.Core.Path.{sym}
+-- A header's refusal, else that of the lines.
 use borrow.Author.Needs.{needs}
-use Rattle.files.proofs.Calls.{code-of}
-use Rattle.log_tables.proofs.Shuffling.{shuffled-loads}
-use Rattle.logs.proofs.Calls.{load-sound, load-fault}
+use Rattle.logs.proofs.Calls.{load-sound, load-fault, load-clauses}
 use Rattle.logs.proofs.load.Statement.{statement}
 use Rattle.logs.proofs.load.Tie as tie
 
@@ -19,7 +16,7 @@ same-length c = search needs
 returns : tie.Need-returns
 returns c =
     let e = load-sound (c .before .before .before .before .before .before .before .before .before .args .bytes .now) (c .before .before .before .before .before .before .before .before .before .args .table .now) _ (c .before .before .before .before .before .before .read-header .ensures) (c .before .before .before .before .before .if1 .taken) _ _ (c .before .before .load-lines .ensures .0) (c .before .before .load-lines .ensures .1) in
-    (e, λ z. shuffled-loads _ _ (code-of (sym (e .0)) z))
+    load-clauses _ _ _ _ e
 
 refused-requires : tie.Need-refused-requires
 refused-requires c κs = search needs
@@ -27,7 +24,7 @@ refused-requires c κs = search needs
 returns-2 : tie.Need-returns-2
 returns-2 c =
     let e = load-fault (c .before .before .before .before .before .args .bytes .now) (c .before .before .before .before .before .args .table .now) _ (c .before .before .read-header .ensures) (c .before .if1 .left) _ (c .refused .ensures) in
-    (e, λ z. shuffled-loads _ _ (code-of (sym (e .0)) z))
+    load-clauses _ _ _ _ e
 
 pub load-spec : {M : Type 1} → statement M
 load-spec =

@@ -36,8 +36,8 @@ returns-3 c =
     (ne-eqb (a .k) (a .columns .kind) (c .before .before .before .before .before .if1 .left), ne-eqb (a .k) (a .columns .register) (c .before .before .before .if2 .left), eq-eqb (a .k) (a .columns .value) (c .before .if3 .taken))
     (c .number-cell2 .ensures)
 
-number-cell-requires-3 : tie.Need-number-cell-requires-3
-number-cell-requires-3 c κs = search needs
+stamp-cell-requires : tie.Need-stamp-cell-requires
+stamp-cell-requires c κs = search needs
 
 returns-4 : tie.Need-returns-4
 unfolding saidIn
@@ -45,10 +45,10 @@ returns-4 c =
     let a = c .before .before .before .before .before .before .before .before .before .before .args in
     rw
     (ne-eqb (a .k) (a .columns .kind) (c .before .before .before .before .before .before .before .if1 .left), ne-eqb (a .k) (a .columns .register) (c .before .before .before .before .before .if2 .left), ne-eqb (a .k) (a .columns .value) (c .before .before .before .if3 .left), eq-eqb (a .k) (a .columns .start) (c .before .if4 .taken))
-    (c .number-cell3 .ensures)
+    (c .stamp-cell .ensures)
 
-number-cell-requires-4 : tie.Need-number-cell-requires-4
-number-cell-requires-4 c κs = search needs
+stamp-cell-requires-2 : tie.Need-stamp-cell-requires-2
+stamp-cell-requires-2 c κs = search needs
 
 returns-5 : tie.Need-returns-5
 unfolding saidIn
@@ -56,7 +56,7 @@ returns-5 c =
     let a = c .before .before .before .before .before .before .before .before .before .before .before .before .args in
     rw
     (ne-eqb (a .k) (a .columns .kind) (c .before .before .before .before .before .before .before .before .before .if1 .left), ne-eqb (a .k) (a .columns .register) (c .before .before .before .before .before .before .before .if2 .left), ne-eqb (a .k) (a .columns .value) (c .before .before .before .before .before .if3 .left), ne-eqb (a .k) (a .columns .start) (c .before .before .before .if4 .left), eq-eqb (a .k) (a .columns .finish) (c .before .if5 .taken))
-    (c .number-cell4 .ensures)
+    (c .stamp-cell2 .ensures)
 
 cell-end-requires : tie.Need-cell-end-requires
 cell-end-requires c κs = search needs
@@ -79,9 +79,9 @@ read-cell-spec =
     returns-2
     number-cell-requires-2
     returns-3
-    number-cell-requires-3
+    stamp-cell-requires
     returns-4
-    number-cell-requires-4
+    stamp-cell-requires-2
     returns-5
     cell-end-requires
     returns-6)
