@@ -96,10 +96,17 @@ module _ (s : ℕ) (small : s ≤ largestStamp) where
   text-said : (d r : List ℕ) → d ≡ decimal (s / 86400000) → r ≡ timeOf s → saidAt (length d) (d ++ r) ≡ Is s
   unfolding saidAt
   text-said d r ed er =
+      let days = days-back (s / 86400000) (omega arith) in
+      let hours = two-said colon (s / 3600000 % 24) (omega arith) in
+      let minutes = two-said colon (s / 60000 % 60) (omega arith) in
+      let seconds = two-said colon (s / 1000 % 60) (omega arith) in
+      let rest = three-said point (s % 1000) (omega arith) in
+      let in-hours = with-field-back 24 (s / 86400000) (s / 3600000 % 24) (s / 3600000) (omega arith) (omega arith) (omega arith) in
+      let in-minutes = with-field-back 60 (s / 3600000) (s / 60000 % 60) (s / 60000) (omega arith) (omega arith) (omega arith) in
+      let in-seconds = with-field-back 60 (s / 60000) (s / 1000 % 60) (s / 1000) (omega arith) (omega arith) (omega arith) in
       rw (take-at d r (length d) refl, at 0 (length d) (omega arith), drop-append-add d r 3, drop-append-add d r 6, drop-append-add d r 9, ed, er)
-      (rw (days-back (s / 86400000) (omega arith), two-said colon (s / 3600000 % 24) (omega arith), two-said colon (s / 60000 % 60) (omega arith), two-said colon (s / 1000 % 60) (omega arith), three-said point (s % 1000) (omega arith))
-      (rw (with-field-back 24 (s / 86400000) (s / 3600000 % 24) (s / 3600000) (omega arith) (omega arith) (omega arith), with-field-back 60 (s / 3600000) (s / 60000 % 60) (s / 60000) (omega arith) (omega arith) (omega arith), with-field-back 60 (s / 60000) (s / 1000 % 60) (s / 1000) (omega arith) (omega arith) (omega arith))
-      (with-field-back 1000 (s / 1000) (s % 1000) s (omega arith) (omega arith) small)))
+      (rw (days, hours, minutes, seconds, rest)
+      (rw (in-hours, in-minutes, in-seconds) (with-field-back 1000 (s / 1000) (s % 1000) s (omega arith) (omega arith) small)))
     where
       at : (k n : ℕ) → length d + k ≡ n → drop n (d ++ r) ≡ drop k r
       at k n e = ap (λ (j : ℕ). drop j (d ++ r)) (sym e) ∙ drop-append-add d r k

@@ -1,4 +1,4 @@
--- Logs with known answers (document 02, W-201): one table, and one theorem; and a column-shuffled copy, computed.
+-- Logs with known answers (document 02, W-201): one table, and one theorem; and a column-shuffled copy and one with clock time, computed.
 -- Assumes nothing.
 use Prim.Native.Nat.{ℕ, zero, suc, _<_}
 use mathlib.Core.Path.{_≡_, refl}
@@ -13,10 +13,12 @@ use Rattle.lists.specs.Lists.{put, keep, all, first}
 use Rattle.history.specs.declared.Answer.{Answer}
 use Rattle.history.specs.Answer.{firstMet, passed, refusedBy}
 use Rattle.parsing.specs.Numbers.{isDigit, worth, held, says, numberOf, numberIn, front, isNumber}
-use Rattle.clock.specs.Clock.{leadingZero, daysIn, fieldIn, withField, saidAt, clockIn, stampIn}
+use Rattle.text.specs.Decimal.{digits, decimal}
+use Rattle.clock.specs.Clock.{clockOf, leadingZero, daysIn, fieldIn, withField, saidAt, clockIn, stampIn}
 use Rattle.cells.specs.Parts.{longer, parts, linesFrom, kindOf, same}
 use Rattle.headers.specs.Header.{registerName, kindName, valueName, startName, finishName, more, columnFrom, headerCells, width, namedFrom, isOnly, place, placesOf, complete, soundHeader}
 use Rattle.cells.specs.Grids.{joined, textOf}
+use Rattle.log_tables.specs.Stamps.{asClock, clockCells, clocked}
 use Rattle.log_tables.specs.Shuffled.{Reorders, shuffled}
 use Rattle.log_tables.specs.Logs.{saidIn, amount, dataLines, lineTests, logTests, logTable, loadTests, loadAnswer, loadTable}
 
@@ -114,3 +116,15 @@ reversed-reorders n = record { once = reversed-once n; each = reversed-in n; onl
 pub reversed-copy : (width (others ++ otherLine) ≡ 8) × (shuffled (reversed 8) (others ++ otherLine) ≡ reversedCopy)
 unfolding reversed shuffled textOf joined dataLines headerCells linesFrom parts longer front keep put
 reversed-copy = (refl, refl)
+
+-- The log of one line, and its copy with the stamps as clock time: 7,w,25,0:00:00:00.003,0:00:00:00.009.
+abbrev clockedCopy : List ℕ
+clockedCopy =
+    header
+    ++ 55 ∷ 44 ∷ 119 ∷ 44 ∷ 50 ∷ 53 ∷ 44 ∷ 48 ∷ 58 ∷ 48 ∷ 48 ∷ 58 ∷ 48 ∷ 48 ∷ 58 ∷ 48 ∷ 48 ∷ 46 ∷ 48 ∷ 48 ∷ 51
+    ∷ 44 ∷ 48 ∷ 58 ∷ 48 ∷ 48 ∷ 58 ∷ 48 ∷ 48 ∷ 58 ∷ 48 ∷ 48 ∷ 46 ∷ 48 ∷ 48 ∷ 57 ∷ 10
+    ∷ []
+
+pub clocked-copy : clocked (header ++ line) ≡ clockedCopy
+unfolding clocked clockCells asClock clockOf decimal digits textOf joined dataLines headerCells linesFrom parts longer front keep put placesOf place namedFrom columnFrom more same stampIn isNumber numberOf says held worth isDigit all
+clocked-copy = refl

@@ -113,4 +113,5 @@ shuffled-loads bs table z o re =
     let re′ : Reorders (length (bytesOf (headerCells bs))) o = rw (names-wide bs table p) re in
     copy-loads bs table p (rearranged o names) (map (rearranged o) rows) (columnsIn o (columnsOf bs)) (grid-after names rows (columnsOf bs) g o re′)
     (length-map rows (rearranged o) ∙ rows-count bs table p)
-    (rows-same (columnsOf bs) (columnsIn o (columnsOf bs)) (rearranged o) rows (λ r m. row-after names (columnsOf bs) (g .named) o re′ r (g .readable r m)) ∙ sym (loads-table bs table p))
+    (rows-same (columnsOf bs) (columnsIn o (columnsOf bs)) (rearranged o) rows (λ r m. row-after names (columnsOf bs) (g .named) o re′ r (g .readable r m))
+    ∙ sym (loads-table bs table p))

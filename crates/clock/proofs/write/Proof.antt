@@ -26,7 +26,9 @@ refused-requires-2 : tie.Need-refused-requires-2
 refused-requires-2 c κs = search needs
 
 returns-2 : tie.Need-returns-2
-returns-2 c = written-short _ _ _ (omega arith) (omega (arith, clock-length (c .before .before .before .before .before .args .stamp), c .before .before .decimal-length .ensures)) (c .refused2 .ensures)
+returns-2 c =
+    let long = clock-length (c .before .before .before .before .before .args .stamp) in
+    written-short _ _ _ (omega arith) (omega (arith, long, c .before .before .decimal-length .ensures)) (c .refused2 .ensures)
 
 put-number-requires : tie.Need-put-number-requires
 put-number-requires c κs = search needs
@@ -43,9 +45,12 @@ same-length c = search needs
 returns-3 : tie.Need-returns-3
 returns-3 c =
     let a = c .before .before .before .before .before .before .before .before .before .before .before .before .before .args in
-    let long = c .before .before .before .before .before .before .before .before .before .before .decimal-length .ensures in
     let number = c .before .before .before .before .before .before .before .put-number .ensures in
-    written (a .stamp) (a .text .now) _ (omega arith) _ (omega (arith, long, clock-length (a .stamp))) (c .passed .ensures ∙ ap (λ (n : ℕ). passed n) (omega (arith, long, clock-length (a .stamp)))) (days-time (a .stamp) (a .text .now) _ _ _ (number .0) (number .1) (c .before .before .before .put-time .ensures))
+    let digits = c .before .before .before .before .before .before .before .before .before .before .decimal-length .ensures in
+    let text = days-time (a .stamp) (a .text .now) _ _ _ (number .0) (number .1) (c .before .before .before .put-time .ensures) in
+    let long = clock-length (a .stamp) in
+    written (a .stamp) (a .text .now) _ (omega arith) _ (omega (arith, digits, long))
+    (c .passed .ensures ∙ ap (λ (n : ℕ). passed n) (omega (arith, digits, long))) text
 
 pub write-spec : {M : Type 1} → statement M
 write-spec =

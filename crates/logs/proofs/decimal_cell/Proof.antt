@@ -20,14 +20,17 @@ number-cell-requires : tie.Need-number-cell-requires
 number-cell-requires c κs = search needs
 
 returns-2 : tie.Need-returns-2
-returns-2 c = number-says _ _ _ _ _ (ne-eqb _ _ (c .before .before .before .if1 .left)) (sym (c .before .before .holds-number .ensures) ∙ c .before .if2 .taken) (c .number-cell .ensures)
+returns-2 c =
+    number-says _ _ _ _ _ (ne-eqb _ _ (c .before .before .before .if1 .left))
+    (sym (c .before .before .holds-number .ensures) ∙ c .before .if2 .taken) (c .number-cell .ensures)
 
 cell-end-requires : tie.Need-cell-end-requires
 cell-end-requires c κs = search needs
 
 returns-3 : tie.Need-returns-3
 returns-3 c =
-    skipped-says _ _ _ _ _ (ne-eqb _ _ (c .before .before .before .if1 .left)) (sym (c .before .before .holds-number .ensures) ∙ c .before .if2 .left) (cell-is _ _ _ _ (c .cell-end .ensures) refl)
+    skipped-says _ _ _ _ _ (ne-eqb _ _ (c .before .before .before .if1 .left))
+    (sym (c .before .before .holds-number .ensures) ∙ c .before .if2 .left) (cell-is _ _ _ _ (c .cell-end .ensures) refl)
 
 pub decimal-cell-spec : {M : Type 1} → statement M
 decimal-cell-spec =

@@ -50,7 +50,9 @@ returns-2 c =
     let a = c .before .before .before .before .before .before .before .before .before .args in
     let d = c .before .before .before .before .before .before .decimal-cell .ensures in
     let is = c .before .before .before .before .number .given .1 in
-    walk-end (a .bytes .now) (a .columns) _ _ _ _ _ (l .inv) _ (decimal-read _ _ _ _ _ d _ is) _ (decimal-worth _ _ _ _ _ d _ is) _ (c .before .before .with-cell .ensures) _ (decimal-sound _ _ _ _ _ d _ is) (sym (c .before .comma-at .ensures) ∙ not-true _ (c .if1 .taken))
+    walk-end (a .bytes .now) (a .columns) _ _ _ _ _ (l .inv) _ (decimal-read _ _ _ _ _ d _ is)
+    _ (decimal-worth _ _ _ _ _ d _ is) _ (c .before .before .with-cell .ensures) _ (decimal-sound _ _ _ _ _ d _ is)
+    (sym (c .before .comma-at .ensures) ∙ not-true _ (c .if1 .taken))
 
 add-from : tie.Need-add-from Inv-loop μ-loop
 add-from c =
@@ -58,7 +60,12 @@ add-from c =
     let a = c .before .before .before .before .before .before .before .before .before .args in
     let d = c .before .before .before .before .before .before .decimal-cell .ensures in
     let is = c .before .before .before .before .number .given .1 in
-    omega (arith, walk-on (a .bytes .now) (a .columns) _ _ _ _ _ (l .inv) _ (decimal-read _ _ _ _ _ d _ is) _ (decimal-worth _ _ _ _ _ d _ is) _ (c .before .before .with-cell .ensures) _ (decimal-sound _ _ _ _ _ d _ is) (sym (c .before .comma-at .ensures) ∙ not-false _ (c .if1 .left)))
+    omega (
+      arith,
+      walk-on (a .bytes .now) (a .columns) _ _ _ _ _ (l .inv) _ (decimal-read _ _ _ _ _ d _ is)
+          _ (decimal-worth _ _ _ _ _ d _ is) _ (c .before .before .with-cell .ensures) _ (decimal-sound _ _ _ _ _ d _ is)
+          (sym (c .before .comma-at .ensures) ∙ not-false _ (c .if1 .left)),
+    )
 
 loop-less : tie.Need-loop-less Inv-loop μ-loop
 loop-less c =
@@ -66,7 +73,12 @@ loop-less c =
     let a = c .before .before .before .before .before .before .before .before .before .args in
     let d = c .before .before .before .before .before .before .decimal-cell .ensures in
     let is = c .before .before .before .before .number .given .1 in
-    omega (arith, l .inv .within, walk-above (a .bytes .now) (a .columns) _ _ _ _ _ (l .inv) _ (decimal-read _ _ _ _ _ d _ is) _ (decimal-worth _ _ _ _ _ d _ is) _ (c .before .before .with-cell .ensures) _ (decimal-sound _ _ _ _ _ d _ is))
+    omega (
+      arith,
+      l .inv .within,
+      walk-above (a .bytes .now) (a .columns) _ _ _ _ _ (l .inv) _ (decimal-read _ _ _ _ _ d _ is)
+          _ (decimal-worth _ _ _ _ _ d _ is) _ (c .before .before .with-cell .ensures) _ (decimal-sound _ _ _ _ _ d _ is),
+    )
 
 loop-again : tie.Need-loop-again Inv-loop μ-loop
 loop-again c =
@@ -74,7 +86,9 @@ loop-again c =
     let a = c .before .before .before .before .before .before .before .before .before .args in
     let d = c .before .before .before .before .before .before .decimal-cell .ensures in
     let is = c .before .before .before .before .number .given .1 in
-    walk-more (a .bytes .now) (a .columns) _ _ _ _ _ (l .inv) _ (decimal-read _ _ _ _ _ d _ is) _ (decimal-worth _ _ _ _ _ d _ is) _ (c .before .before .with-cell .ensures) _ (decimal-sound _ _ _ _ _ d _ is) (sym (c .before .comma-at .ensures) ∙ not-false _ (c .if1 .left))
+    walk-more (a .bytes .now) (a .columns) _ _ _ _ _ (l .inv) _ (decimal-read _ _ _ _ _ d _ is)
+    _ (decimal-worth _ _ _ _ _ d _ is) _ (c .before .before .with-cell .ensures) _ (decimal-sound _ _ _ _ _ d _ is)
+    (sym (c .before .comma-at .ensures) ∙ not-false _ (c .if1 .left))
 
 pub walk-spec : {M : Type 1} → statement M
 walk-spec =
