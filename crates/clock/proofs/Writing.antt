@@ -12,13 +12,13 @@ use Rattle.history.specs.declared.Answer.{Answer}
 use Rattle.history.specs.Table.{largestStamp}
 use Rattle.history.specs.Answer.{bad-span, short-list, refused, passed, firstMet}
 use Rattle.text.specs.Decimal.{decimal}
-use Rattle.clock.specs.Clock.{timeOf, clockOf, writeTests, writeAnswer, writeText, Writes, WritesBack}
+use Rattle.clock.specs.Clock.{timeOf, clockOf, writeTests, writeAnswer, writeText, Writes, WritesStamp}
 use Rattle.clock.proofs.Exact.{clock-exactly}
 use Rattle.clock.proofs.Lengths.{clock-short}
 
 -- What a call with a stamp and a text answers and leaves.
 abbrev pub Written : ℕ → List ℕ → Answer → List ℕ → Type 0
-Written s old a new = Writes s old a new × WritesBack s old a new
+Written s old a new = Writes s old a new × WritesStamp s old a new
 
 module _ (s : ℕ) (old : List ℕ) (a : Answer) where
   pub written-large : largestStamp < s → a ≡ refused bad-span 0 → Written s old a old

@@ -55,7 +55,7 @@ fieldIn begin [] = Nothing
 fieldIn begin (c ∷ t) = cond (eqb c begin) (numberOf t) Nothing
 
 -- A count with a field behind it, of whose unit `limit` make one of the count's: both in the field's unit. Nothing where the field reaches the limit
--- (02, W-205, "Hours 00 to 23, minutes and seconds 00 to 59") or the sum is over the largest stamp, as it then is in every smaller unit.
+-- (02, W-205, "Hours are 00 to 23, minutes and seconds 00 to 59") or the sum is over the largest stamp, as it then is in every smaller unit.
 unfoldable pub withField : ℕ → Number → Number → Number
 withField limit Nothing x = Nothing
 withField limit (Is v) Nothing = Nothing
@@ -78,7 +78,8 @@ saidAt n t =
 unfoldable pub clockIn : List ℕ → Number
 clockIn t = saidAt (length t - 13) t
 
--- A text is the clock text of a stamp exactly when a stamp was read out of it (02, W-205, "outside these ranges or over the largest stamp").
+-- A stamp was read out of a text exactly when it is at most the largest and the text is its clock text (02, W-205, "outside these ranges or over the
+-- largest stamp").
 abbrev pub SaysExactly : List ℕ → Number → Type 0
 SaysExactly t read = (s : ℕ) → (read ≡ Is s) ↔ ((s ≤ largestStamp) × (t ≡ clockOf s))
 
@@ -102,7 +103,7 @@ Writes s text answer left = (answer ≡ writeAnswer s text) × (left ≡ writeTe
 
 -- What was written reads as the stamp, in at most 24 bytes, and so much room is enough for every stamp (02, W-205, "every stamp up to 2^62 − 1 can be
 -- written as clock text").
-pub record WritesBack (s : ℕ) (text : List ℕ) (answer : Answer) (left : List ℕ) : Type 0 where
+pub record WritesStamp (s : ℕ) (text : List ℕ) (answer : Answer) (left : List ℕ) : Type 0 where
   pub short : answer .rows ≤ 24
   pub back : answer .code ≡ 0 → clockIn (take (answer .rows) left) ≡ Is s
   pub every : s ≤ largestStamp → 24 ≤ length text → answer .code ≡ 0

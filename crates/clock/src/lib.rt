@@ -7,7 +7,7 @@ ghost use Prim.Native.Nat.{_+_, _≤_};
 ghost use lib.ListN.{length};
 ghost use lib.Seq.{sets};
 ghost use Rattle.text.specs.Decimal.{digit};
-ghost use Rattle.clock.specs.Clock.{timeOf, leadingZero, daysIn, fieldIn, withField, clockIn, SaysExactly, Writes, WritesBack};
+ghost use Rattle.clock.specs.Clock.{timeOf, leadingZero, daysIn, fieldIn, withField, clockIn, SaysExactly, Writes, WritesStamp};
 
 // The thousandths of a day, an hour, a minute and a second.
 const DAY: u64 = 86400000;
@@ -63,7 +63,7 @@ fn put_time(stamp: u64, text: &mut [u8], at: usize)
 // Writes a stamp as clock text at the front of the text. A refused call leaves the text as it was.
 pub fn write(stamp: u64, text: &mut [u8]) -> Answer
     ensures outcome { λ r. ⌜ Writes stamp (now (text .entry)) r (now (text .exit)) ⌝ }
-    ensures back { λ r. ⌜ WritesBack stamp (now (text .entry)) r (now (text .exit)) ⌝ }
+    ensures back { λ r. ⌜ WritesStamp stamp (now (text .entry)) r (now (text .exit)) ⌝ }
 {
     if Row::LARGEST_STAMP < stamp {
         return Answer::refused(Answer::BAD_SPAN, 0);
@@ -88,6 +88,7 @@ fn leading_zero(text: &[u8]) -> bool
     text[0] == b'0'
 }
 
+// The number of days, which has no leading zero.
 fn days_in(text: &[u8]) -> Number
     ensures { λ r. ⌜ r ≡ daysIn (now (text .entry)) ⌝ }
 {
