@@ -147,7 +147,8 @@ fn parts(text: &[u8]) -> Number
     with_field(1000, seconds, field(b'.', &text[n + 9..n + 13]))
 }
 
-// The stamp that a clock text says: no other text says one. Most texts that are no clock text are told by their length.
+// The stamp that a clock text says: no other text says one. A text that is shorter or longer than all of them
+// is told by its length alone.
 pub fn read(text: &[u8]) -> Number
     ensures said { λ r. ⌜ r ≡ clockIn (now (text .entry)) ⌝ }
     ensures exactly { λ r. ⌜ SaysExactly (now (text .entry)) r ⌝ }

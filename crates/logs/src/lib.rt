@@ -159,8 +159,8 @@ fn walk_on(bytes: &[u8], columns: Columns, begun: Row, count: usize, at: usize) 
     }
 }
 
-// Walks the line that starts at `at`. Most lines have decimal stamps and no fault: their cells are walked by a loop that calls nothing, and from
-// another cell on `walk_on` goes on.
+// Walks the line that starts at `at`. As long as cells are numbers and kinds, no clock time is read, a call that would keep the row out of the
+// processor's registers; from the first other cell on `walk_on` goes on.
 fn walk(bytes: &[u8], columns: Columns, at: usize) -> Line
     requires { ⌜ at ≤ length (now bytes) ⌝ }
     ensures { λ r. ⌜ r ≡ walked (now (bytes .entry)) columns noRow 0 at Nothing ⌝ }
