@@ -9,7 +9,7 @@ use crate::register::{Register, LAST_STAMP};
 use crate::screening::screened;
 use crate::table::{self, row, whole, COLUMNS};
 use crate::text;
-use crate::{is_question, order, search, Found};
+use crate::{is_question, order, search, zones, Found};
 
 /// An answer, whichever way it comes.
 fn either(answer: Result<Answer, Answer>) -> Answer {
@@ -89,6 +89,11 @@ pub fn screen(table: &[u64], register: u64) -> Answer {
     either(rows.and_then(|rows| screened(&rows).map(|_| Answer::passed(rows.len() as u64))))
 }
 
+/// Four numbers a write of the register, by low end: its zone in recorded stamps.
+pub fn zone_list(table: &[u64], register: u64, list: &mut [u64]) -> Answer {
+    either(zones::listed(table, register).and_then(|(zones, rows)| put(zones.as_flattened(), list, rows)))
+}
+
 pub fn read(bytes: &[u8], table: &mut [u64]) -> Answer {
     either(table_of(bytes).and_then(|rows| put(&rows, table, rows.len() / COLUMNS)))
 }
@@ -143,6 +148,10 @@ pub fn road(bytes: &[u8], out: &mut [u8]) -> Answer {
 
 pub fn answer_road(bytes: &[u8], question: u64, allowance: u64, out: &mut [u8]) -> Answer {
     print(&text::answers_of(bytes, question, allowance), out)
+}
+
+pub fn zones(bytes: &[u8], register: u64, out: &mut [u8]) -> Answer {
+    print(&text::zones_of(bytes, register), out)
 }
 
 pub fn log(bytes: &[u8], out: &mut [u8]) -> Answer {

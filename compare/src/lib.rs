@@ -23,7 +23,7 @@ pub mod shapes;
 pub mod table;
 pub mod tables;
 pub mod text;
-mod zones;
+pub mod zones;
 
 use codes::{FRESH, NO_SUCH_QUESTION, SPENT, STALE};
 use register::Register;

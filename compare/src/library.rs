@@ -1,5 +1,5 @@
 //! The proved library: the entry for a C host, and the calls of crates/calls that both programs make: the marking call, with a list and without one,
-//! the answers of many registers, and the loading of logs.
+//! the answers of many registers, the zone list, and the loading of logs.
 
 use std::cell::RefCell;
 
@@ -18,6 +18,17 @@ extern "C" {
 #[cfg(feature = "before")]
 #[link(name = "before_calls", kind = "static")]
 extern "C" {
+    fn before_calls_mark(
+        table: *const u64,
+        cells: usize,
+        register: u64,
+        question: u64,
+        allowance: u64,
+        list: *mut u64,
+        places: usize,
+        said: *mut u64,
+        four: usize,
+    );
     fn before_calls_load(bytes: *const u8, length: usize, table: *mut u64, cells: usize, said: *mut u64, four: usize);
 }
 
@@ -47,6 +58,7 @@ extern "C" {
         said: *mut u64,
         four: usize,
     );
+    fn calls_zone_list(table: *const u64, cells: usize, register: u64, list: *mut u64, places: usize, said: *mut u64, four: usize);
     fn calls_load(bytes: *const u8, length: usize, table: *mut u64, cells: usize, said: *mut u64, four: usize);
 }
 
@@ -86,7 +98,16 @@ pub fn mark_table(table: &[u64], register: u64, question: u64, allowance: u64, l
     })
 }
 
-/// The same without a list.
+/// The same by an earlier build.
+#[cfg(feature = "before")]
+pub fn mark_table_before(table: &[u64], register: u64, question: u64, allowance: u64, list: &mut [u64]) -> Answer {
+    // SAFETY: as above.
+    answered(|said, four| unsafe {
+        before_calls_mark(table.as_ptr(), table.len(), register, question, allowance, list.as_mut_ptr(), list.len(), said, four)
+    })
+}
+
+/// The mark without a list.
 pub fn answer(table: &[u64], register: u64, question: u64, allowance: u64) -> Answer {
     // SAFETY: as above.
     answered(|said, four| unsafe { calls_answer(table.as_ptr(), table.len(), register, question, allowance, said, four) })
@@ -99,6 +120,12 @@ pub fn answers(table: &[u64], registers: &[u64], question: u64, allowance: u64, 
     answered(|said, four| unsafe {
         calls_answers(table.as_ptr(), cells, registers.as_ptr(), count, question, allowance, list.as_mut_ptr(), places, said, four)
     })
+}
+
+/// The zones of a table's register.
+pub fn zone_list(table: &[u64], register: u64, list: &mut [u64]) -> Answer {
+    // SAFETY: as above.
+    answered(|said, four| unsafe { calls_zone_list(table.as_ptr(), table.len(), register, list.as_mut_ptr(), list.len(), said, four) })
 }
 
 /// The rows of a log with named columns.

@@ -6,7 +6,7 @@ use crate::codes::{FRESH, NO_SUCH_QUESTION};
 use crate::file::{table_of, MOST_ROWS};
 use crate::log;
 use crate::table::{registers, COLUMNS};
-use crate::{is_question, ALLOWANCE};
+use crate::{is_question, zones, ALLOWANCE};
 
 /// Numbers in decimal with commas between them, and a line feed.
 fn line(numbers: &[u64]) -> String {
@@ -56,6 +56,12 @@ fn answers_text(table: &[u64], question: u64, allowance: u64) -> String {
 
 pub fn answers_of(bytes: &[u8], question: u64, allowance: u64) -> String {
     text_of(table_of(bytes), |table| answers_text(table, question, allowance))
+}
+
+/// The header and a line for each zone of the register; or the line of the refusal, which is the file's or the screening's.
+pub fn zones_of(bytes: &[u8], register: u64) -> String {
+    let zones = table_of(bytes).and_then(|table| zones::listed(&table, register));
+    zones.map_or_else(refused_of, |(zones, _)| format!("row,direction,low,high\n{}", zones.iter().map(|zone| line(zone)).collect::<String>()))
 }
 
 pub fn log_of(bytes: &[u8]) -> String {

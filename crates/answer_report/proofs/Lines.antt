@@ -3,17 +3,18 @@
 use Prim.Native.Nat.{ℕ, suc, _+_, _≤_}
 use mathlib.Core.Path.{_≡_, refl, sym, ap, ap₂, _∙_}
 use mathlib.Core.Bool.{Bool, true, false, cond}
-use mathlib.Core.List.{List, [], _∷_, _++_, flatMap, append-assoc}
+use mathlib.Core.List.{List, [], _∷_, _++_, flatMap}
 use native.Mathlib.Omega.{arith}
-use lib.ListN.{length, set, take, drop, length-append}
-use lib.Seq.{sets, take-at, drop-at}
+use lib.ListN.{length, set, drop, length-append}
+use lib.Seq.{sets}
 use Rattle.history.specs.declared.Answer.{Answer}
 use Rattle.history.specs.Table.{largestCount, rowCount}
 use Rattle.history.specs.Answer.{numbers, no-such-question, refused}
 use Rattle.methods.specs.Mark.{noQuestion, written}
 use Rattle.text.specs.Decimal.{line, linesOf}
 use Rattle.text.proofs.Joins.{line-length, lines-length}
-use Rattle.printing.specs.Texts.{textAnswer, textAfter, Printed, refusedWord, refusedLine}
+use Rattle.printing.specs.Texts.{refusedWord, refusedLine}
+use Rattle.printing.proofs.Lines.{lines-front}
 use Rattle.marks.specs.Marks.{answerTo}
 use Rattle.marks.proofs.Saying.{answer-said}
 use Rattle.grouping.specs.Registers.{registers}
@@ -25,16 +26,6 @@ pub line-long : (t : List ℕ) (question allowance register : ℕ) → length (l
 unfolding lineOf fields
 line-long t question allowance register = refl
 
--- lines of w numbers each are those at the front of the list alone
-lines-front : (f : ℕ → List ℕ) (w : ℕ) → ((x : ℕ) → length (f x) ≡ w) → (l rest : List ℕ) → linesOf w (length l) (flatMap f l ++ rest) ≡ linesOf w (length l) (flatMap f l)
-unfolding flatMap linesOf
-lines-front f w wide [] rest = refl
-lines-front f w wide (x ∷ l) rest =
-    let a : f x ++ flatMap f l ++ rest ≡ f x ++ (flatMap f l ++ rest) = append-assoc (f x) (flatMap f l) rest in
-    ap₂ (λ (y z : List ℕ). line y ++ linesOf w (length l) z) (ap (take w) a ∙ take-at (f x) (flatMap f l ++ rest) w (wide x)) (ap (drop w) a ∙ drop-at (f x) (flatMap f l ++ rest) w (wide x))
-    ∙ ap (λ (y : List ℕ). line (f x) ++ y) (lines-front f w wide l rest)
-    ∙ sym (ap₂ (λ (y z : List ℕ). line y ++ linesOf w (length l) z) (take-at (f x) (flatMap f l) w (wide x)) (drop-at (f x) (flatMap f l) w (wide x)))
-
 -- the register stored, and behind it the fields of its answer
 pub line-stored : (t : List ℕ) (question allowance register at : ℕ) (list next : List ℕ) (one : Answer) → one ≡ answerTo t register question allowance →
     next ≡ sets (set list at register) (at + 1) (numbers one) → next ≡ sets list at (lineOf t question allowance register)
@@ -44,10 +35,6 @@ line-stored t question allowance register at list next one e n =
 
 pub meant : (t : List ℕ) (question allowance : ℕ) → Meant t question allowance
 meant t question allowance register f = answer-said t register question allowance f
-
--- a text printed is one that equals it printed
-pub text-printed : (a b out : List ℕ) (r : Answer) (after : List ℕ) → a ≡ b → Printed a out r after → Printed b out r after
-text-printed a b out r after e p = (p .0 ∙ ap (λ x. textAnswer x out) e, p .1 ∙ ap (λ x. textAfter x out) e)
 
 module _ (t : List ℕ) (question allowance : ℕ) where
   -- THE TEXT, from the numbers of its lines

@@ -131,7 +131,7 @@ fn text_with(
         order,
         numbers,
     );
-    report::headed(b"register,code,row,rows,trials\n", numbers, m, out)
+    printing::headed(b"register,code,row,rows,trials\n", numbers, LINE, m, out)
 }
 
 // The text of a table that passes tests 1 and 2.

@@ -9,6 +9,7 @@ ghost use Rattle.history.specs.Answer.{listAfter, answerAfter};
 ghost use Rattle.history.specs.Screen.{screening};
 ghost use Rattle.atomicity.specs.Check.{check};
 ghost use Rattle.methods.specs.Mark.{mark};
+ghost use Rattle.zone_list.specs.ZoneList.{zoneCall};
 ghost use Rattle.marks.specs.Marks.{answerTo};
 ghost use Rattle.files.specs.Files.{readAnswer, readTable, writeAnswer, writeBytes};
 ghost use Rattle.log_tables.specs.Logs.{loadAnswer, loadTable};
@@ -19,6 +20,7 @@ ghost use Rattle.printing.specs.Texts.{textAfter, refusedLine};
 ghost use Rattle.printing.specs.Files.{fileText};
 ghost use Rattle.report.specs.Report.{reportOf, reportAnswer, reportAfter};
 ghost use Rattle.answer_report.specs.Text.{answersText};
+ghost use Rattle.zone_report.specs.Text.{zonesText};
 ghost use Rattle.log_report.specs.Logs.{logText};
 ghost use Rattle.sheet.specs.Sheet.{sheetOf, examOf};
 ghost use Rattle.file_sheets.specs.Files.{benchOf, examFile};
@@ -66,6 +68,14 @@ pub extern "C" fn calls_screen(table: &[u64], register: u64, to: &mut [u64])
     ensures { λ _. ⌜ Says (screening (now (table .entry)) register) (now (to .entry)) (now (to .exit)) ⌝ }
 {
     screening::screen(table, register).write(to);
+}
+
+#[no_mangle]
+pub extern "C" fn calls_zone_list(table: &[u64], register: u64, list: &mut [u64], to: &mut [u64])
+    ensures { λ _. ⌜ now (list .exit) ≡ zoneCall (now (table .entry)) register (now (list .entry)) .list ⌝ }
+    ensures { λ _. ⌜ Says (zoneCall (now (table .entry)) register (now (list .entry)) .answer) (now (to .entry)) (now (to .exit)) ⌝ }
+{
+    zone_list::write(table, register, list).write(to);
 }
 
 #[no_mangle]
@@ -151,6 +161,14 @@ pub extern "C" fn calls_answer_road(
     ensures { λ _. ⌜ Prints (fileText (now (bytes .entry)) (answersText question allowance)) (now (out .entry)) (now (to .entry)) (now (to .exit)) ⌝ }
 {
     answer_report::road(bytes, question, allowance, out).write(to);
+}
+
+#[no_mangle]
+pub extern "C" fn calls_zones(bytes: &[u8], register: u64, out: &mut [u8], to: &mut [u64])
+    ensures { λ _. ⌜ now (out .exit) ≡ textAfter (fileText (now (bytes .entry)) (zonesText register)) (now (out .entry)) ⌝ }
+    ensures { λ _. ⌜ Prints (fileText (now (bytes .entry)) (zonesText register)) (now (out .entry)) (now (to .entry)) (now (to .exit)) ⌝ }
+{
+    zone_report::zones(bytes, register, out).write(to);
 }
 
 #[no_mangle]

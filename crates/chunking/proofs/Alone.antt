@@ -13,7 +13,7 @@ use Rattle.positions.specs.Columns.{mine, readOf}
 use Rattle.positions.proofs.Places.{upto-ext, upto-length, no-cond}
 use Rattle.placing.specs.States.{isFree, stateOf, Ready, Whose}
 use Rattle.placing.specs.Owned.{Mine, Owned}
-use Rattle.zones.specs.Lay.{clusterAt}
+use Rattle.zones.specs.Zones.{clusterAt}
 use Rattle.freeing.specs.Marks.{Dyed}
 use Rattle.freeing.specs.Freed.{Shut}
 

@@ -9,8 +9,7 @@ ghost use Rattle.lists.specs.Lists.{keep};
 ghost use Rattle.positions.specs.Columns.{Linked};
 ghost use Rattle.placing.specs.States.{isFree};
 ghost use Rattle.freeing.specs.Freed.{Shut};
-ghost use Rattle.zones.specs.Zones.{Inside};
-ghost use Rattle.zones.specs.Lay.{clusterAt};
+ghost use Rattle.zones.specs.Zones.{Inside, clusterAt};
 ghost use Rattle.chunking.specs.Chunks.{faces, lies, Spans, Skips};
 ghost use Rattle.chunking.specs.Inner.{Rises, Behind, Reaches, Encloses, Sides, Marked, Hangs};
 

@@ -34,7 +34,7 @@ pub differ-sym : (v w : Op) → Differ v w → Differ w v
 differ-sym v w n e = n (sym e)
 
 -- the largest start is that of an operation of the cluster: the write or a read
-last-is : {H : List Op} {w : Op} → Write H w → (o : Op) × In o H × ((o ≡ w) ⊎ Reads H w o) × (lastStart H w ≡ o .start)
+pub last-is : {H : List Op} {w : Op} → Write H w → (o : Op) × In o H × ((o ≡ w) ⊎ Reads H w o) × (lastStart H w ≡ o .start)
 unfolding lastStart
 last-is {H} {w} k = go (greatest-is (λ o. o .start) (w .start) (readsOf H w))
   where
@@ -87,7 +87,7 @@ module _ {H : List Op} (g : Prepared H) where
       go (inr q) = let d = g .proper .dict x m q in (d .0, d .1 .by, sym (d .1 .same))
 
   -- no operation of the cluster starts after the largest start or finishes before the smallest finish
-  starts-by : {w x : Op} → Write H w → In x H → x .value ≡ w .value → x .start ≤ lastStart H w
+  pub starts-by : {w x : Op} → Write H w → In x H → x .value ≡ w .value → x .start ≤ lastStart H w
   unfolding lastStart
   starts-by {w} {x} k m e = go (of-cluster k m e)
     where
@@ -95,7 +95,7 @@ module _ {H : List Op} (g : Prepared H) where
       go (inl q) = omega (arith, ap (λ o. o .start) q, greatest-first (λ o. o .start) (w .start) (readsOf H w))
       go (inr d) = greatest-in (λ o. o .start) _ _ (readsOf-in H d)
 
-  ends-from : {w x : Op} → Write H w → In x H → x .value ≡ w .value → firstFinish H w ≤ x .finish
+  pub ends-from : {w x : Op} → Write H w → In x H → x .value ≡ w .value → firstFinish H w ≤ x .finish
   ends-from {w} {x} k m e = go (of-cluster k m e)
     where
       go : (x ≡ w) ⊎ Reads H w x → firstFinish H w ≤ x .finish

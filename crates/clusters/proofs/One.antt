@@ -4,15 +4,16 @@ use Prim.Native.Nat.{ℕ, _≤_, _<_}
 use mathlib.Core.Path.{_≡_, refl, sym, ap}
 use mathlib.Core.Logic.{_⊎_, inl, inr, _≢_, ⊎-elim}
 use mathlib.Core.Bool.{Bool, true, false, cond, _||_}
-use mathlib.Core.List.{List, [], _∷_, List·Memᴰ as In, List·Memᴰ·head as here, List·Memᴰ·eq-of-singleton as alone}
+use mathlib.Core.List.{List, [], _∷_, map, List·Memᴰ as In, List·Memᴰ·head as here, List·Memᴰ·eq-of-singleton as alone}
 use native.Mathlib.Omega.{arith}
 use native.Mathlib.Decide.{decLt}
-use borrow.Author.Tests.{eqb-false, ne-eqb, not-true}
+use borrow.Author.Tests.{lt-ltb, eqb-false, ne-eqb, not-true}
+use Rattle.lists.specs.Pairs.{Pairs}
 use Rattle.lists.specs.Sorts.{sort}
 use Rattle.lists.proofs.Tests.{Told, told-true, true-told, told-as, told-not, told-and, told-or, told-ltb, true-not, both}
 use Rattle.lists.proofs.Members.{in-keep, keep-in}
 use Rattle.lists.proofs.Every.{all-true, true-all}
-use Rattle.lists.proofs.Pairs.{pairs-map}
+use Rattle.lists.proofs.Pairs.{pairs-map, pairs-both, pairs-find}
 use Rattle.lists.proofs.Sorts.{in-sort, sort-in, by-key}
 use Rattle.history.specs.declared.Op.{Op}
 use Rattle.methods.specs.declared.Zone.{Zone}
@@ -28,6 +29,8 @@ use Rattle.witnesses.proofs.Positions.{orders-witness}
 use Rattle.witnesses.proofs.Near.{near-one}
 use Rattle.witnesses.proofs.Join.{joins}
 use Rattle.clusters.specs.Zones.{ZonesDecide}
+use Rattle.clusters.specs.Pass.{passes, PassDecides}
+use Rattle.clusters.proofs.Pass.{After, pass-sound, pass-complete}
 use Rattle.clusters.proofs.Clusters.{Differ, differ-sym, in-only, only-in, not-last, home, follows, cluster-orders, writes-apart, before-or-between}
 
 -- Two zones, the second forward, clash where each has its finish below the other's start: forward ones overlap, a backward one lies inside.
@@ -60,6 +63,12 @@ in-turn y z m n d h = go (decLt (z .finish) (y .start)) (decLt (y .finish) (z .s
     go (yes a) (no b) c = omega arith
     go (yes a) (yes b) (yes c) = absurd (m (omega arith))
     go (yes a) (yes b) (no c) = absurd (n (omega arith))
+
+-- two answers that are the same
+same : (a b : Bool) → (a ≡ true → b ≡ true) → (b ≡ true → a ≡ true) → a ≡ b
+same true b h k = sym (h refl)
+same false true h k = k refl
+same false false h k = refl
 
 clear? : (H : List Op) (v w : Op) → Told (Clash (zoneOf H v) (zoneOf H w) → ⊥) (clear H v w)
 unfolding clear
@@ -99,19 +108,61 @@ module _ {H : List Op} (g : Prepared H) where
 
   -- COMPLETE: with a 1-atomic order no zones clash, as of two writes that clash each would come before the other.
 
-  one-complete : {pos : Op → ℕ} → Witness pos 1 H → isOne H ≡ true
+  no-clash : ((v w : Op) → Write H v → Write H w → Differ w v → Clash (zoneOf H v) (zoneOf H w) → ⊥) → isOne H ≡ true
   unfolding isOne
-  one-complete {pos} k =
+  no-clash h =
       true-all _ (writes H)
       (λ v m. true-all (clear H v) _ (λ w n. let i = in-keep (otherValue v) (writes H) n in
-      true-told (clear? H v w) (clashes (in-writes H m) (in-writes H (i .0)) (eqb-false _ _ (not-true _ (i .1))))))
+      true-told (clear? H v w) (h v w (in-writes H m) (in-writes H (i .0)) (eqb-false _ _ (not-true _ (i .1))))))
+
+  one-complete : {pos : Op → ℕ} → Witness pos 1 H → isOne H ≡ true
+  one-complete {pos} k = no-clash clashes
     where
       first : {x c : Op} → Write H x → Write H c → x ≢ c → firstFinish H x < lastStart H c → pos x < pos c
       first {x} {c} kx kc n h = ⊎-elim (λ l. l) (λ b. absurd (near-one k c (b .0) (b .1) x kx (b .2) (b .3))) (before-or-between g k kx kc n h)
 
-      clashes : {v w : Op} → Write H v → Write H w → Differ w v → Clash (zoneOf H v) (zoneOf H w) → ⊥
-      clashes kv kw n c =
+      clashes : (v w : Op) → Write H v → Write H w → Differ w v → Clash (zoneOf H v) (zoneOf H w) → ⊥
+      clashes v w kv kw n c =
           omega (arith, first kv kw (λ e. n (ap (λ o. o .value) (sym e))) (c .left), first kw kv (λ e. n (ap (λ o. o .value) e)) (c .right))
+
+  -- IN ONE PASS over the zones by low end, which looks at the last forward one before each
+
+  pub pass-decides : PassDecides H
+  pass-decides = same (passes 0 (map z ws)) (isOne H) forth back
+    where
+      ws : List Op
+      ws = sort (lowFirst H) (writes H)
+
+      z : Op → Zone
+      z = zoneOf H
+
+      wr : {w : Op} → In w ws → Write H w
+      wr m = in-writes H (in-sort (lowFirst H) (writes H) m)
+
+      rises : Pairs (λ v w. (low (z v) ≤ low (z w)) × Differ v w) ws
+      rises = by-key (λ w. low (z w)) differ-sym (writes-apart g)
+
+      Neither : Op → Op → Type 0
+      Neither v w = (Clash (z v) (z w) → ⊥) × (Clash (z w) (z v) → ⊥)
+
+      forth : passes 0 (map z ws) ≡ true → isOne H ≡ true
+      forth e = no-clash (λ v w kv kw n. pick v w (pairs-find (pairs-map (pairs-both rises (pass-sound z 0 ws e .1)) neither) (member kv) (member kw) (λ q. n (ap (λ o. o .value) (sym q)))))
+        where
+          neither : (v w : Op) → In v ws → In w ws → ((low (z v) ≤ low (z w)) × Differ v w) × After z v w → Neither v w
+          neither v w m n (r, k) = (
+            λ c. absurd (omega (arith, c .forth, c .right, r .0, k (lt-ltb (z v .finish) (z v .start) (omega (arith, c .forth, c .right, r .0))))),
+            λ c. absurd (omega (arith, c .left, k (lt-ltb (z v .finish) (z v .start) (c .forth)))),
+          )
+
+          member : {w : Op} → Write H w → In w ws
+          member k = sort-in (lowFirst H) (writes H) (writes-in H k)
+
+          pick : (v w : Op) → Neither v w ⊎ Neither w v → Clash (z v) (z w) → ⊥
+          pick v w (inl k) = k .0
+          pick v w (inr k) = k .1
+
+      back : isOne H ≡ true → passes 0 (map z ws) ≡ true
+      back e = pass-complete z 0 (λ x m. omega arith) (pairs-map rises (λ v w m n r d. in-turn (z v) (z w) (apart e (wr m) (wr n) (r .1)) (apart e (wr n) (wr m) (differ-sym v w (r .1))) (not-last g (wr m) (wr n)) (r .0)))
 
   -- THE ZONE METHOD'S THEOREM
   pub zones-decides : ZonesDecide H (zones H)

@@ -6,3 +6,4 @@ pub mod Listed
 pub mod Made
 pub mod Sorted
 pub mod Keying
+pub mod Lent

@@ -54,6 +54,10 @@ module _ {t : List ℕ} {register : ℕ} {rows : List ℕ} (g : Listed t registe
   op-is : (j : ℕ) → j < length rows → op H j ≡ short R (byRow (getD rows j 0))
   op-is j l = ap (λ (o : List Op). getD o j nothing) history-is ∙ getD-map (λ x. short R (byRow x)) rows j nothing 0 l
 
+  -- the value at a position is the row's
+  pub value-at : (j : ℕ) → j < length rows → op H j .value ≡ opAt t (getD rows j 0) .value
+  value-at j l = ap (λ (o : Op). o .value) (op-is j l)
+
   row-is : (j : ℕ) → j < length rows → op R j ≡ byRow (getD rows j 0)
   row-is j l = getD-map byRow rows j nothing 0 l
 

@@ -22,8 +22,7 @@ use Rattle.methods.specs.Fzf.{Run, chunk, dangling, newRun, extend, grow, runs,
 use Rattle.positions.specs.Places.{upto}
 use Rattle.positions.specs.Columns.{Cols, size, readOf, Sound, op, ops, Of}
 use Rattle.positions.proofs.Places.{below}
-use Rattle.zones.specs.Zones.{zoneBy, Zoned}
-use Rattle.zones.specs.Lay.{clusterAt}
+use Rattle.zones.specs.Zones.{zoneBy, Zoned, clusterAt}
 use Rattle.zones.proofs.Zone.{cluster-at}
 use Rattle.zones.proofs.ByLow.{zone-at}
 use Rattle.chunking.specs.declared.Span.{Span}

@@ -13,5 +13,6 @@ pub mod Cover
 pub mod Scans
 pub mod Decide
 pub mod Stores
+pub mod Entries
 pub mod Filled
 pub mod Groups

@@ -1,8 +1,8 @@
 -- The laws of a relation between each element of a list and every later one.
 -- Assumes nothing.
-use mathlib.Core.Path.{refl}
+use mathlib.Core.Path.{refl, sym, _∙_}
 use mathlib.Core.Bool.{Bool, true, false}
-use mathlib.Core.Logic.{_⊎_, inl, inr}
+use mathlib.Core.Logic.{_⊎_, inl, inr, _≢_}
 use mathlib.Core.List.{List, [], _∷_, _++_, map, List·Memᴰ as In, List·Memᴰ·head as here, List·Memᴰ·tail as there, List·Memᴰ·append-cases, Memᴰ·append-left, Memᴰ·append-right}
 use Rattle.lists.specs.Lists.{put, keep}
 use Rattle.lists.specs.Pairs.{Pairs, nil, cons}
@@ -19,6 +19,13 @@ module _ {A : Type 0} where
 
     pub pairs-tail : {x : A} {l : List A} → Pairs R (x ∷ l) → Pairs R l
     pairs-tail (cons u t) = t
+
+    -- of two elements, one comes first
+    pub pairs-find : {l : List A} → Pairs R l → {x y : A} → In x l → In y l → x ≢ y → R x y ⊎ R y x
+    pairs-find (cons u t) (here e) (here f) d = absurd (d (e ∙ sym f))
+    pairs-find (cons u t) (here e) (there n) d = inl (rw e (u _ n))
+    pairs-find (cons u t) (there m) (here f) d = inr (rw f (u _ m))
+    pairs-find (cons u t) (there m) (there n) d = pairs-find t m n d
 
     pub pairs-keep : (p : A → Bool) {l : List A} → Pairs R l → Pairs R (keep p l)
     unfolding keep put

@@ -4,14 +4,12 @@ use Prim.Native.Nat.{ℕ, _-_, _≤_}
 use mathlib.Core.Path.{_≡_, ap, sym, _∙_}
 use mathlib.Core.List.{List}
 use native.Mathlib.Omega.{arith}
-use lib.ListN.{length, take, replicate, length-map, length-replicate}
-use lib.Seq.{length-take-le}
+use lib.ListN.{length, take, length-map}
 use Rattle.lists.proofs.Pairs.{pairs-map}
 use Rattle.lists.proofs.Cover.{no-longer-by}
-use Rattle.lists.proofs.Sorts.{sort-length}
 use Rattle.history.specs.declared.Op.{Op}
-use Rattle.history.specs.Table.{largestCount, rowCount, history}
-use Rattle.methods.specs.Prepared.{startsFirst, byStart, prepared}
+use Rattle.history.specs.Table.{rowCount, history}
+use Rattle.methods.specs.Prepared.{byStart, prepared}
 use Rattle.methods.specs.Zones.{order}
 use Rattle.methods.specs.Mark.{Outcome, kOf, method, rowNumbers, written, judged}
 use Rattle.preparation.proofs.Rows.{history-rows}
@@ -22,10 +20,9 @@ use Rattle.positions.proofs.Columns.{size-is, of-sound}
 use Rattle.placing.specs.declared.Search.{Search}
 use Rattle.placing.specs.Searched.{between, Searched, is-stale, is-fresh, is-spent}
 use Rattle.columns.specs.Rows.{Listed}
-use Rattle.columns.specs.Made.{Room, Made}
+use Rattle.columns.specs.Made.{Made}
 use Rattle.columns.proofs.Made.{prepared-rows}
-use Rattle.history.proofs.Rows.{rows-few}
-use Rattle.columns.proofs.Sorted.{rows-listed}
+use Rattle.columns.proofs.Lent.{rows-long, front, listed}
 use Rattle.joining.specs.Items.{Known}
 use Rattle.searches.specs.Replies.{Fits, Replied}
 use Rattle.searches.proofs.Answering.{between-long}
@@ -35,11 +32,6 @@ module _ {t : List ℕ} {register : ℕ} {rows : List ℕ} (g : Listed t registe
   -- the register's operations
   abbrev h : List Op
   h = history t register
-
-  -- as many rows as the register has
-  rows-long : length rows ≡ length h
-  unfolding byStart
-  rows-long = ap length (g .listed) ∙ length-map (byStart h) (λ x. x .row) ∙ sort-length startsFirst h
 
   -- the columns have a place for each row
   pub made-size : {C : Cols} → Made t rows C → size C ≡ length rows
@@ -81,7 +73,7 @@ module _ {t : List ℕ} {register : ℕ} {rows : List ℕ} (g : Listed t registe
         few =
             omega (
               arith,
-              rows-long,
+              rows-long g,
               between-long places a b,
               length-map (between places from to) (op (prepared h)),
               order-few (ops (prepared h) (between places from to)) (ap (λ x. x .decision) (s (prepared h) (m .columns register g))),
@@ -92,32 +84,14 @@ module _ {t : List ℕ} {register : ℕ} {rows : List ℕ} (g : Listed t registe
       Searched C allowance (method question) places r → Replied rows allowance places r list out → out ≡ judged (length h) allowance list (method question (prepared h))
   work-ends {C} question allowance list out m k f =
       f C (prepared h) (method question) (m .columns register g) (prepared-rows g) k
-      ∙ ap (λ (n : ℕ). judged n allowance list (method question (prepared h))) rows-long
+      ∙ ap (λ (n : ℕ). judged n allowance list (method question (prepared h))) (rows-long g)
 
 -- What is lent of the register's rows, where it passes tests 1 to 10 and each row of the table has a place.
 module _ (t : List ℕ) (register question : ℕ) (list : List ℕ) (p : Passes (length t) (history t register) question list) (n : ℕ) (rows₀ rows : List ℕ)
     (room : rowCount t ≤ length rows₀) (long : length rows ≡ length rows₀)
     (e : (n ≡ length (history t register)) × (rows ≡ written (rowNumbers (byStart (history t register))) rows₀)) where
-  -- they are no more than a table has
-  pub few : n ≤ largestCount
-  few = omega (arith, e .0, rows-few t register, p .screened .few)
-
-  -- what is lent of the rows is as long as they are
-  pub front : n ≡ length (take n rows)
-  front = sym (length-take-le n rows (omega (arith, e .0, rows-few t register)))
-
-  -- it is the register's rows by rising start
-  pub listed : Listed t register (take n rows)
-  listed = rows-listed t register n rows₀ rows (p .screened) e
-
   -- what the marking of its rows takes
   pub rows-take : ((r : ℕ) × Listed t r (take n rows)) × ((length (take n rows) ≤ length list) × Asked question)
-  rows-take = ((register, listed), (omega (arith, front, e .0, p .room), p .asked))
-
--- five slices of arrays with m places, as long as the rows
-pub room-of : (m : ℕ) (rows : List ℕ) → length rows ≤ m →
-    let l = take {A = ℕ} (length rows) (replicate m 0) in
-    Room rows l l l l l
-room-of m rows h =
-    let e : length (take {A = ℕ} (length rows) (replicate m 0)) ≡ length rows = length-take-le (length rows) (replicate m 0) (rw (length-replicate {A = ℕ} m 0) h) in
-    record { room-start = e; room-finish = e; room-writer = e; room-last = e; room-prev = e }
+  rows-take =
+      let s = p .screened in
+      ((register, listed t register s n rows₀ rows room long e), (omega (arith, front t register s n rows₀ rows room long e, e .0, p .room), p .asked))

@@ -14,7 +14,7 @@ ghost use Rattle.meaning.specs.Demand.{Demand};
 ghost use Rattle.positions.specs.Columns.{Cols, cols, Sound};
 ghost use Rattle.placing.specs.Searched.{Searched};
 ghost use Rattle.columns.specs.Rows.{Listed};
-ghost use Rattle.columns.specs.Made.{Room};
+ghost use Rattle.columns.specs.Made.{Room, Made};
 ghost use Rattle.joining.specs.Items.{Known};
 ghost use Rattle.searches.specs.Replies.{outcome};
 ghost use Rattle.marker.specs.Called.{Asked, judgedBy, OfRows};
@@ -60,6 +60,8 @@ fn refusal(table: &[u64], register: u64, question: u64, room: usize) -> Answer
 
 // The search by the question's method, into a lent order.
 fn search(
+    table: &[u64],
+    rows: &[u64],
     start: &[u64],
     finish: &[u64],
     writer: &[u64],
@@ -75,10 +77,14 @@ fn search(
     requires { λ C. ⌜ length (now start) ≤ largestCount ⌝ }
     requires { λ C. ⌜ Known C ⌝ }
     requires { λ C. ⌜ length (now start) ≤ length (now order) ⌝ }
+    requires { λ C. ⌜ Made (now table) (now rows) C ⌝ }
+    requires { λ C. ⌜ ((register : ℕ) × Listed (now table) register (now rows)) ⌝ }
+    requires { λ C. ⌜ length (now rows) ≤ largestCount ⌝ }
+    requires { λ C. ⌜ length (now rows) ≤ length (now order) ⌝ }
     ensures { λ C r. ⌜ Searched C allowance (method question) (now (order .exit)) r ⌝ }
 {
     if question == ZONES {
-        return zones::search(start, finish, writer, last, prev, order);
+        return zone_method::search(table, rows, start, finish, writer, last, prev, order);
     }
     if question == LBT {
         return searches::walk(start, finish, writer, last, prev, allowance, order);
@@ -110,6 +116,8 @@ fn work(
 {
     columns::fill(table, rows, start, finish, writer, last, prev);
     let found = search(
+        table,
+        rows,
         start,
         finish,
         writer,

@@ -30,3 +30,7 @@ module _ (text out : List ℕ) (length₀ : ℕ) (long : length₀ ≡ length te
 -- a second part behind the first
 pub parts : (xs ys out one two : List ℕ) (next : ℕ) → next ≡ 0 + length xs → one ≡ sets out 0 xs → two ≡ sets one next ys → two ≡ sets out 0 (xs ++ ys)
 parts xs ys out one two next n o t = t ∙ ap (λ (l : List ℕ). sets l next ys) o ∙ sets-behind xs ys out 0 next (sym n)
+
+-- a text printed is one that equals it printed
+pub text-printed : (a b out : List ℕ) (r : Answer) (after : List ℕ) → a ≡ b → Printed a out r after → Printed b out r after
+text-printed a b out r after e p = (p .0 ∙ ap (λ x. textAnswer x out) e, p .1 ∙ ap (λ x. textAfter x out) e)

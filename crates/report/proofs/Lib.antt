@@ -1,3 +1,2 @@
--- The loops over the lines of the report, and the report from the summary.
-pub mod Lines
+-- The report from the summary.
 pub mod Reporting

@@ -2,68 +2,12 @@
 use history::Answer;
 use history::Row;
 ghost use mathlib.Core.Path.{_≡_};
-ghost use mathlib.Core.List.{_++_};
-ghost use Prim.Native.Nat.{ℕ, _+_, _*_, _≤_};
-ghost use lib.ListN.{length};
-ghost use lib.Seq.{sets};
-ghost use Rattle.history.specs.Table.{largestCount};
-ghost use Rattle.text.specs.Decimal.{linesOf};
+ghost use Prim.Native.Nat.{ℕ};
 ghost use Rattle.records.specs.Records.{tableOf};
 ghost use Rattle.summary.specs.Summary.{Meant};
 ghost use Rattle.printing.specs.Texts.{Printed};
 ghost use Rattle.printing.specs.Files.{fileText};
 ghost use Rattle.report.specs.Report.{reportOf, reportAnswer, reportAfter};
-
-// How many bytes k lines of five numbers take.
-fn lines_length(numbers: &[u64], k: usize) -> usize
-    requires { ⌜ k * 5 ≤ length (now numbers) ⌝ }
-    requires { ⌜ k ≤ largestCount ⌝ }
-    ensures { λ r. ⌜ r ≡ length (linesOf 5 k (now (numbers .entry))) ⌝ }
-{
-    let mut total: usize = 0;
-    let mut i: usize = 0;
-    while i < k {
-        let from = i * summary::ENTRY;
-        let to = from + summary::ENTRY;
-        total += text::line_length(&numbers[from..to]);
-        i += 1;
-    }
-    total
-}
-
-// Writes k lines of five numbers from `at` on; the place behind them.
-fn put_lines(numbers: &[u64], k: usize, out: &mut [u8], at: usize) -> usize
-    requires { ⌜ k * 5 ≤ length (now numbers) ⌝ }
-    requires { ⌜ k ≤ largestCount ⌝ }
-    requires { ⌜ at + length (linesOf 5 k (now numbers)) ≤ length (now out) ⌝ }
-    ensures { λ r. ⌜ (r ≡ at + length (linesOf 5 k (now (numbers .entry)))) × (now (out .exit) ≡ sets (now (out .entry)) at (linesOf 5 k (now (numbers .entry)))) ⌝ }
-{
-    let mut place = at;
-    let mut i: usize = 0;
-    while i < k {
-        let from = i * summary::ENTRY;
-        let to = from + summary::ENTRY;
-        place = text::put_line(&numbers[from..to], out, place);
-        i += 1;
-    }
-    place
-}
-
-// A header line, and k lines of five numbers.
-pub fn headed(header: &[u8], numbers: &[u64], k: usize, out: &mut [u8]) -> Answer
-    requires { ⌜ length (now header) ≤ 64 ⌝ }
-    requires { ⌜ k * 5 ≤ length (now numbers) ⌝ }
-    requires { ⌜ k ≤ largestCount ⌝ }
-    ensures { λ r. ⌜ Printed (now (header .entry) ++ linesOf 5 k (now (numbers .entry))) (now (out .entry)) r (now (out .exit)) ⌝ }
-{
-    let length = header.len() + lines_length(numbers, k);
-    if out.len() < length {
-        return Answer::refused(Answer::SHORT_LIST, 0);
-    }
-    let next = text::put_bytes(header, out, 0);
-    put_lines(numbers, k, out, next);
-    Answer::passed(length as u64)
-}
 
 // The report of a table, and what the marks on its lines say.
 pub fn report(table: &[u64], out: &mut [u8]) -> Answer
@@ -77,7 +21,13 @@ pub fn report(table: &[u64], out: &mut [u8]) -> Answer
     }
     let k = summed.rows as usize;
     let n = k * summary::ENTRY;
-    headed(b"register,rows,one,two,row\n", &numbers[..n], k, out)
+    printing::headed(
+        b"register,rows,one,two,row\n",
+        &numbers[..n],
+        summary::ENTRY,
+        k,
+        out,
+    )
 }
 
 // The report of a file, or the line of its refusal, and what the marks on its lines say.

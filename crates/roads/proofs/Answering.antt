@@ -22,7 +22,7 @@ use Rattle.marker.specs.Called.{Asked}
 use Rattle.marks.specs.Marks.{answerTo}
 use Rattle.marks.proofs.Places.{same-answer}
 use Rattle.marks.proofs.Saying.{places, answer-said, never-ten}
-use Rattle.grouping.proofs.Entries.{flat-long, flat-at}
+use Rattle.lists.proofs.Entries.{flat-at, flat-part}
 use Rattle.roads.specs.Answers.{fields, answersOf, answersTests, answersAnswer, answersList, Single, Each}
 
 -- m numbers at the front of a list are as many as are taken
@@ -144,37 +144,23 @@ module _ (t registers : List ℕ) (question allowance : ℕ) (list : List ℕ) w
     any-list l room =
         same-answer (history t register) places l (omega (arith, rows-few t register, few, length-replicate {A = ℕ} largestCount 0)) room (length t) question allowance
 
-    number-at : (j : ℕ) → j < 4 → getD after (i * 4 + j) 0 ≡ getD own j 0
-    unfolding answersOf
-    number-at j k =
-        ap (λ (m : List ℕ). getD m (i * 4 + j) 0) stored
-        ∙ flat-at (fields t question allowance) 4 (fields-long t question allowance) registers (drop (length (flatMap (fields t question allowance) registers)) list) i j h k
-
-    -- the list has a place for each of them
-    long : i * 4 + 4 ≤ length after
-    unfolding answersOf
-    long =
-        omega (
-          arith,
-          ap length stored,
-          length-append (flatMap (fields t question allowance) registers) (drop (length (flatMap (fields t question allowance) registers)) list),
-          flat-long (fields t question allowance) 4 (fields-long t question allowance) registers,
-        )
+    -- what is behind the numbers of all
+    abbrev rest : List ℕ
+    rest = drop (length (flatMap (fields t question allowance) registers)) list
 
     part : take 4 (drop (i * 4) after) ≡ own
+    unfolding answersOf
     part =
-        ext-getD 0 _ _ (same ∙ sym (fields-long t question allowance register)) (
-        λ j k.
-        let l : j < 4 = omega (arith, k, same) in
-        getD-take 4 (drop (i * 4) after) j 0 l ∙ getD-drop (i * 4) after j 0 ∙ number-at j l
-        )
-      where
-        same : length (take 4 (drop (i * 4) after)) ≡ 4
-        same = length-take-le 4 (drop (i * 4) after) (omega (arith, length-drop (i * 4) after, long))
+        ap (λ (m : List ℕ). take 4 (drop (i * 4) m)) stored
+        ∙ flat-part (fields t question allowance) 4 (fields-long t question allowance) 0 registers rest i h
 
     code-at : getD after (i * 4) 0 ≡ answerTo t register question allowance .code
-    unfolding fields
-    code-at = let e : i * 4 ≡ i * 4 + 0 = omega arith in ap (λ (k : ℕ). getD after k 0) e ∙ number-at 0 (omega arith)
+    unfolding answersOf fields
+    code-at =
+        let e : i * 4 ≡ i * 4 + 0 = omega arith in
+        ap (λ (k : ℕ). getD after k 0) e
+        ∙ ap (λ (m : List ℕ). getD m (i * 4 + 0) 0) stored
+        ∙ flat-at (fields t question allowance) 4 (fields-long t question allowance) 0 registers rest i 0 h (omega arith)
 
     pub single : Single t register question allowance after i
     unfolding fields

@@ -12,7 +12,7 @@ use Rattle.history.specs.Table.{largestCount, rowCount}
 use Rattle.history.specs.Answer.{ragged, overfull, short-list, refused, firstMet, passed}
 use Rattle.methods.specs.Mark.{written}
 use Rattle.grouping.specs.Registers.{registers}
-use Rattle.grouping.proofs.Entries.{flat-long}
+use Rattle.lists.proofs.Entries.{flat-long}
 use Rattle.summary.specs.Summary.{entry, summaryOf, summaryTests, summaryAnswer, summaryList}
 use Rattle.summary.proofs.Entries.{entry-long}
 

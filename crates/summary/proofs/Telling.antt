@@ -12,7 +12,7 @@ use Rattle.history.proofs.Refusals.{Coded, code-no-fault, no-fault-answer}
 use Rattle.methods.specs.Mark.{written}
 use Rattle.marks.proofs.Saying.{answer-said}
 use Rattle.grouping.specs.Registers.{registers}
-use Rattle.grouping.proofs.Entries.{flat-at}
+use Rattle.lists.proofs.Entries.{flat-at}
 use Rattle.summary.specs.Summary.{entry, summaryOf, summaryTests, summaryAnswer, summaryList, Meant, Tells}
 use Rattle.summary.proofs.Entries.{entry-long}
 
@@ -49,7 +49,7 @@ module _ (t list : List ℕ) where
     number-at j k =
         let l : i < length (registers t) = omega (arith, h, ap (λ x. x .rows) (left .0 ∙ summary-passed passes)) in
         ap (λ (m : List ℕ). getD m (i * 5 + j) 0) (left .1 ∙ summary-written passes)
-        ∙ flat-at (entry t) 5 (entry-long t) (registers t) (written-rest) i j l k
+        ∙ flat-at (entry t) 5 (entry-long t) 0 (registers t) (written-rest) i j l k
       where
         written-rest : List ℕ
         written-rest = drop (length (flatMap (entry t) (registers t))) list

@@ -1,9 +1,5 @@
--- The zones by the columns are those of the clusters, the pass over them decides, and the clusters by low end are the order.
+-- The zones by the columns are those of the clusters, and the writes by low end are those of the history.
 pub mod Zone
 pub mod LastStarts
 pub mod Lows
 pub mod ByLow
-pub mod Pass
-pub mod Decided
-pub mod Laying
-pub mod Found

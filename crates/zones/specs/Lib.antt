@@ -1,4 +1,2 @@
 -- The zones of a prepared history in columns.
 pub mod Zones
-pub mod Pass
-pub mod Lay

@@ -4,14 +4,14 @@
 use Prim.Native.Nat.{ℕ, _-_, _≤_, _<_, max}
 use mathlib.Core.Path.{_≡_}
 use mathlib.Core.Bool.{Bool, cond}
-use mathlib.Core.List.{List}
+use mathlib.Core.List.{List, _∷_}
 use lib.ListN.{length, getD}
 use lib.Dec.{leb, ltb}
 use Rattle.lists.specs.Sorts.{sort}
 use Rattle.methods.specs.declared.Zone.{Zone}
 use Rattle.methods.specs.Zones.{low, zoneOf}
 use Rattle.positions.specs.Places.{upto}
-use Rattle.positions.specs.Columns.{Cols, size, wr, isOwn, op, Says}
+use Rattle.positions.specs.Columns.{Cols, size, wr, isOwn, readOf, op, Says}
 
 -- the largest start of w's cluster, where the last of its reads is at k - 1, and k is 0 where it has none
 abbrev pub lastOf : List ℕ → ℕ → ℕ → ℕ
@@ -39,6 +39,10 @@ zoneBy finish late w = record { finish = getD finish w 0; start = getD late w 0 
 pub record Zoned (C : Cols) (late : List ℕ) : Type 0 where
   pub long : length late ≡ size C
   pub zones : Says C (λ H. (w : ℕ) → w < size C → wr C w ≡ w → zoneOf H (op H w) ≡ zoneBy (C .finish) late w)
+
+-- a cluster by position: a write, then its reads by start (01, "Zones")
+abbrev pub clusterAt : List ℕ → ℕ → List ℕ
+clusterAt writer w = w ∷ upto (readOf writer w) (length writer)
 
 -- x has the lower low end, and the writes by low end (01, "Zones")
 abbrev pub lowerFirst : List ℕ → List ℕ → ℕ → ℕ → Bool

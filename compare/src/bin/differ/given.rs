@@ -3,7 +3,7 @@
 use compare::answer::Answer;
 use compare::codes::FRESH;
 use compare::damage::damage;
-use compare::file::{table_of, MOST_ROWS};
+use compare::file::{table_of, MOST_ROWS, WRITE};
 use compare::random::Random;
 use compare::table::{registers, COLUMNS};
 use compare::tables::{road, table};
@@ -28,6 +28,11 @@ impl Given {
     /// The rows of the table that bear the register.
     pub fn rows(&self) -> usize {
         self.table.chunks(COLUMNS).filter(|cells| cells[0] == self.register).count()
+    }
+
+    /// Those of them that are writes.
+    pub fn writes(&self) -> usize {
+        self.table.chunks(COLUMNS).filter(|cells| cells.starts_with(&[self.register, u64::from(WRITE)])).count()
     }
 }
 

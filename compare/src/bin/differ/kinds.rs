@@ -4,7 +4,7 @@ use compare::answer::{Answer, FIELDS};
 use compare::file::{rows_of, RECORD};
 use compare::random::Random;
 use compare::table::{registers, COLUMNS};
-use compare::{calls, clock, text};
+use compare::{calls, clock, text, zones};
 
 use crate::given::{self, Given};
 use crate::lent::{Lent, Needed};
@@ -56,7 +56,7 @@ fn printed(text: String) -> Needed {
     Needed::Bytes(text.len())
 }
 
-pub const KINDS: [Kind; 24] = [
+pub const KINDS: [Kind; 26] = [
     kind!(
         "marker::mark" gives &[0, 1, 2, 3, 4, 5, 7, 8, 9, 10, 11, 12], from given::of_register, needs |g| Needed::Numbers(g.rows());
         |g, lent| mark(&g.table, g.register, g.question, g.allowance, &mut lent.numbers)
@@ -153,6 +153,14 @@ pub const KINDS: [Kind; 24] = [
     kind!(
         "clock::read" gives OF_NUMBERS, from given::of_clock, needs nothing;
         |g, _lent| clock_read(&g.bytes)
+    ),
+    kind!(
+        "zone_list::write" gives &[0, 1, 2, 4, 5, 7, 8, 9, 10], from given::of_register, needs |g| Needed::Numbers(g.writes() * zones::NUMBERS);
+        |g, lent| zone_list(&g.table, g.register, &mut lent.numbers)
+    ),
+    kind!(
+        "zone_report::zones" gives OF_ROOM, from given::of_file_register, needs |g| printed(text::zones_of(&g.bytes, g.register));
+        |g, lent| zones(&g.bytes, g.register, &mut lent.bytes)
     ),
 ];
 

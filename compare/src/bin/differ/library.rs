@@ -5,7 +5,7 @@
 
 use compare::answer::Answer;
 use compare::library::answered;
-pub use compare::library::{answer, answers, load, mark_table as mark};
+pub use compare::library::{answer, answers, load, mark_table as mark, zone_list};
 
 #[link(name = "calls", kind = "static")]
 extern "C" {
@@ -18,6 +18,7 @@ extern "C" {
     fn calls_report(table: *const u64, cells: usize, out: *mut u8, room: usize, said: *mut u64, four: usize);
     fn calls_answer_road(bytes: *const u8, length: usize, question: u64, allowance: u64, out: *mut u8, room: usize, said: *mut u64, four: usize);
     fn calls_road(bytes: *const u8, length: usize, out: *mut u8, room: usize, said: *mut u64, four: usize);
+    fn calls_zones(bytes: *const u8, length: usize, register: u64, out: *mut u8, room: usize, said: *mut u64, four: usize);
     fn calls_log(bytes: *const u8, length: usize, out: *mut u8, room: usize, said: *mut u64, four: usize);
     fn calls_sheet(table: *const u64, cells: usize, register: u64, allowance: u64, out: *mut u8, room: usize, said: *mut u64, four: usize);
     fn calls_checked(
@@ -88,6 +89,10 @@ pub fn answer_road(bytes: &[u8], question: u64, allowance: u64, out: &mut [u8]) 
 
 pub fn road(bytes: &[u8], out: &mut [u8]) -> Answer {
     answered(|said, four| unsafe { calls_road(bytes.as_ptr(), bytes.len(), out.as_mut_ptr(), out.len(), said, four) })
+}
+
+pub fn zones(bytes: &[u8], register: u64, out: &mut [u8]) -> Answer {
+    answered(|said, four| unsafe { calls_zones(bytes.as_ptr(), bytes.len(), register, out.as_mut_ptr(), out.len(), said, four) })
 }
 
 pub fn log(bytes: &[u8], out: &mut [u8]) -> Answer {

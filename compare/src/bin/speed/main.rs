@@ -6,6 +6,7 @@ mod logs;
 mod roads;
 mod timing;
 mod trials;
+mod zones;
 
 use std::hint::black_box;
 use std::time::Duration;
@@ -121,6 +122,7 @@ fn main() {
         println!("{name:<27} {question:>2} {ours:>9.1} {plain:>9.1}");
     }
     differences += trials::compare(least);
+    differences += zones::compare(least);
     differences += roads::compare(least);
     differences += logs::compare(least);
     println!("\ndifferent results: {differences}");

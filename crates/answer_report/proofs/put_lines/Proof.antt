@@ -2,7 +2,8 @@
 use Prim.Native.Nat.{_-_}
 use native.Mathlib.Omega.{arith}
 use lib.ListN.{length}
-use Rattle.grouping.proofs.Entries.{entered-long, Writing, writing-none, writing-room, writing-more, writing-end}
+use Rattle.lists.proofs.Entries.{entered-long}
+use Rattle.grouping.proofs.Entries.{Writing, writing-none, writing-room, writing-more, writing-end}
 use Rattle.answer_report.specs.Text.{lineOf}
 use Rattle.answer_report.proofs.Lines.{line-long}
 use Rattle.answer_report.proofs.put_lines.Statement.{statement}

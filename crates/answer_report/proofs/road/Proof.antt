@@ -5,7 +5,8 @@ use Rattle.files.proofs.Loading.{table-whole, loaded-as, loaded-small, loaded-f
 use Rattle.printing.specs.Texts.{refusedLine}
 use Rattle.printing.proofs.Filing.{loading-refused, loading-printed}
 use Rattle.roads.proofs.Answering.{asked-of}
-use Rattle.answer_report.proofs.Lines.{text-printed, text-refused, meant}
+use Rattle.printing.proofs.Writing.{text-printed}
+use Rattle.answer_report.proofs.Lines.{text-refused, meant}
 use borrow.Author.Needs.{needs}
 use Rattle.answer_report.proofs.road.Statement.{statement}
 use Rattle.answer_report.proofs.road.Tie as tie

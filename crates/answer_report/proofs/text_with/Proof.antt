@@ -4,7 +4,8 @@ use native.Mathlib.Omega.{arith}
 use Rattle.searches.proofs.Answering.{front-in}
 use Rattle.roads.proofs.Examining.{asked-is}
 use Rattle.roads.proofs.Answering.{own-front}
-use Rattle.answer_report.proofs.Lines.{text-is, text-printed}
+use Rattle.printing.proofs.Writing.{text-printed}
+use Rattle.answer_report.proofs.Lines.{text-is}
 use borrow.Author.Needs.{needs}
 use Rattle.answer_report.proofs.text_with.Statement.{statement}
 use Rattle.answer_report.proofs.text_with.Tie as tie
@@ -28,7 +29,7 @@ slice-aggregate-headed : tie.Need-slice-aggregate-headed
 slice-aggregate-headed c = search needs
 
 headed-requires : tie.Need-headed-requires
-headed-requires c κs = let p = c .before .before .before .before .before .before .before .before .before .before .before .before .before .before .before .before .before .before .before .before .before .before .before .before .before .before .before .before .before .before .before .before .before .before .before .before .before .before .before .pre in let e = c .before .before .before .before .before .before .before .before .before .before .before .before .before .before .before .before .before .before .before .before .registers .ensures _ (c .before .before .before .before .before .before .before .before .before .before .before .before .before .before .before .before .before .before .before .before .before .before .before .before .before .before .before .before .group .ensures) in let few = front-in _ _ (own-front _ _ _ e) in (omega arith, (omega (arith, few, c .before .before .before .before .before .before .before .before .before .before .before .before .before .before .before .before .before .before .before .before .registers .kept .1 .1 .0, p .1 .1 .1 .1 .0, p .1 .1 .1 .1 .1 .1 .1, c .before .before .before .before .before .before .before .before .before .before .before .put-lines .kept .1 .1 .1 .1 .1 .1 .1 .1 .0), omega (arith, few, c .before .before .before .before .before .before .before .before .before .before .before .before .before .before .before .before .before .before .before .before .registers .kept .1 .1 .0, p .1 .1 .1 .1 .0, p .0 .few)))
+headed-requires c κs = let p = c .before .before .before .before .before .before .before .before .before .before .before .before .before .before .before .before .before .before .before .before .before .before .before .before .before .before .before .before .before .before .before .before .before .before .before .before .before .before .before .pre in let e = c .before .before .before .before .before .before .before .before .before .before .before .before .before .before .before .before .before .before .before .before .registers .ensures _ (c .before .before .before .before .before .before .before .before .before .before .before .before .before .before .before .before .before .before .before .before .before .before .before .before .before .before .before .before .group .ensures) in let few = front-in _ _ (own-front _ _ _ e) in (omega arith, (omega (arith, few, c .before .before .before .before .before .before .before .before .before .before .before .before .before .before .before .before .before .before .before .before .registers .kept .1 .1 .0, p .1 .1 .1 .1 .0, p .1 .1 .1 .1 .1 .1 .1, c .before .before .before .before .before .before .before .before .before .before .before .put-lines .kept .1 .1 .1 .1 .1 .1 .1 .1 .0), (omega arith, omega (arith, few, c .before .before .before .before .before .before .before .before .before .before .before .before .before .before .before .before .before .before .before .before .registers .kept .1 .1 .0, p .1 .1 .1 .1 .0, p .0 .few))))
 
 same-length : tie.Need-same-length
 same-length c = search needs

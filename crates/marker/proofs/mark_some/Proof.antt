@@ -1,7 +1,7 @@
 -- Each array has a place for each row.
 use mathlib.Core.Path.{sym}
 use native.Mathlib.Omega.{arith}
-use Rattle.marker.proofs.Working.{room-of}
+use Rattle.columns.proofs.Lent.{room-of}
 use borrow.Author.Needs.{needs}
 use Rattle.marker.proofs.mark_some.Statement.{statement}
 use Rattle.marker.proofs.mark_some.Tie as tie

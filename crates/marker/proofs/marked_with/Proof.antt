@@ -1,6 +1,6 @@
 use native.Mathlib.Omega.{arith}
-use Rattle.searches.proofs.Answering.{front-in}
-use Rattle.marker.proofs.Working.{few, front, listed, rows-take}
+use Rattle.columns.proofs.Lent.{few, front-in, front, listed}
+use Rattle.marker.proofs.Working.{rows-take}
 use borrow.Author.Needs.{needs}
 use Rattle.marker.proofs.marked_with.Statement.{statement}
 use Rattle.marker.proofs.marked_with.Tie as tie
@@ -9,13 +9,13 @@ rows-by-start-requires : tie.Need-rows-by-start-requires
 rows-by-start-requires c κs = search needs
 
 slice-reshare-prefix-mark-rows : tie.Need-slice-reshare-prefix-mark-rows
-slice-reshare-prefix-mark-rows c = front-in _ _ (front _ _ _ _ (c .before .before .before .before .before .before .before .pre .0) _ _ _ (c .before .before .before .before .before .before .before .pre .1) (c .before .before .rows-by-start .kept .1 .1 .0) (c .before .before .rows-by-start .ensures))
+slice-reshare-prefix-mark-rows c = front-in _ _ (c .before .before .before .before .before .before .before .pre .0 .screened) _ _ _ (c .before .before .before .before .before .before .before .pre .1) (c .before .before .rows-by-start .kept .1 .1 .0) (c .before .before .rows-by-start .ensures)
 
 slice-aggregate-mark-rows : tie.Need-slice-aggregate-mark-rows
-slice-aggregate-mark-rows c = front _ _ _ _ (c .before .before .before .before .before .before .before .before .pre .0) _ _ _ (c .before .before .before .before .before .before .before .before .pre .1) (c .before .before .before .rows-by-start .kept .1 .1 .0) (c .before .before .before .rows-by-start .ensures)
+slice-aggregate-mark-rows c = front _ _ (c .before .before .before .before .before .before .before .before .pre .0 .screened) _ _ _ (c .before .before .before .before .before .before .before .before .pre .1) (c .before .before .before .rows-by-start .kept .1 .1 .0) (c .before .before .before .rows-by-start .ensures)
 
 mark-rows-requires : tie.Need-mark-rows-requires
-mark-rows-requires c κs = let t = rows-take _ _ _ _ (c .before .before .before .before .before .before .before .before .before .pre .0) _ _ _ (c .before .before .before .before .before .before .before .before .before .pre .1) (c .before .before .before .before .rows-by-start .kept .1 .1 .0) (c .before .before .before .before .rows-by-start .ensures) in (t .0, (omega (arith, front _ _ _ _ (c .before .before .before .before .before .before .before .before .before .pre .0) _ _ _ (c .before .before .before .before .before .before .before .before .before .pre .1) (c .before .before .before .before .rows-by-start .kept .1 .1 .0) (c .before .before .before .before .rows-by-start .ensures), few _ _ _ _ (c .before .before .before .before .before .before .before .before .before .pre .0) _ _ _ (c .before .before .before .before .before .before .before .before .before .pre .1) (c .before .before .before .before .rows-by-start .kept .1 .1 .0) (c .before .before .before .before .rows-by-start .ensures)), t .1))
+mark-rows-requires c κs = let t = rows-take _ _ _ _ (c .before .before .before .before .before .before .before .before .before .pre .0) _ _ _ (c .before .before .before .before .before .before .before .before .before .pre .1) (c .before .before .before .before .rows-by-start .kept .1 .1 .0) (c .before .before .before .before .rows-by-start .ensures) in (t .0, (omega (arith, front _ _ (c .before .before .before .before .before .before .before .before .before .pre .0 .screened) _ _ _ (c .before .before .before .before .before .before .before .before .before .pre .1) (c .before .before .before .before .rows-by-start .kept .1 .1 .0) (c .before .before .before .before .rows-by-start .ensures), few _ _ (c .before .before .before .before .before .before .before .before .before .pre .0 .screened) _ _ _ (c .before .before .before .before .before .before .before .before .before .pre .1) (c .before .before .before .before .rows-by-start .kept .1 .1 .0) (c .before .before .before .before .rows-by-start .ensures)), t .1))
 
 same-length : tie.Need-same-length
 same-length c = search needs
@@ -24,7 +24,7 @@ same-length-2 : tie.Need-same-length-2
 same-length-2 c = search needs
 
 returns : tie.Need-returns
-returns c = c .before .before .mark-rows .ensures _ (listed _ _ _ _ (c .before .before .before .before .before .before .before .before .before .before .before .before .pre .0) _ _ _ (c .before .before .before .before .before .before .before .before .before .before .before .before .pre .1) (c .before .before .before .before .before .before .before .rows-by-start .kept .1 .1 .0) (c .before .before .before .before .before .before .before .rows-by-start .ensures))
+returns c = c .before .before .mark-rows .ensures _ (listed _ _ (c .before .before .before .before .before .before .before .before .before .before .before .before .pre .0 .screened) _ _ _ (c .before .before .before .before .before .before .before .before .before .before .before .before .pre .1) (c .before .before .before .before .before .before .before .rows-by-start .kept .1 .1 .0) (c .before .before .before .before .before .before .before .rows-by-start .ensures))
 
 pub marked-with-spec : {M : Type 1} → statement M
 marked-with-spec =

@@ -13,7 +13,7 @@ search-requires c κs =
     let q = c .before .before .before .before .before .before .before .before .before .before .before .before .before .before .before .before .before .before .before .before .before .before .before .before .before .before .before .before .before .before .before .pre in
     let m = c .before .before .before .before .before .before .before .before .before .before .before .before .before .before .before .before .fill .ensures in
     let s = search-takes (q .1 .0 .1) m (q .1 .1 .0) in
-    (s .0, (s .1 .0, (s .1 .1, omega (arith, made-size (q .1 .0 .1) m, q .1 .1 .1 .1 .1))))
+    (s .0, (s .1 .0, (s .1 .1, (omega (arith, made-size (q .1 .0 .1) m, q .1 .1 .1 .1 .1), (m, (q .1 .0, (q .1 .1 .0, q .1 .1 .1 .1 .1)))))))
 
 answer-requires : tie.Need-answer-requires
 answer-requires c κs =

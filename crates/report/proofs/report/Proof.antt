@@ -28,7 +28,7 @@ slice-aggregate-headed-2 : tie.Need-slice-aggregate-headed-2
 slice-aggregate-headed-2 c = numbers-long _ (c .before .before .before .before .before .before .before .before .before .args .out .now) _ _ (c .before .before .before .before .before .summary .ensures .0) (omega arith)
 
 headed-requires : tie.Need-headed-requires
-headed-requires c κs = (omega arith, (omega (arith, numbers-long _ (c .before .before .before .before .before .before .before .before .before .before .args .out .now) _ _ (c .before .before .before .before .before .before .summary .ensures .0) (omega arith)), lines-few _ (c .before .before .before .before .before .before .before .before .before .before .args .out .now) _ _ (c .before .before .before .before .before .before .summary .ensures .0) (omega arith)))
+headed-requires c κs = (omega arith, (omega (arith, numbers-long _ (c .before .before .before .before .before .before .before .before .before .before .args .out .now) _ _ (c .before .before .before .before .before .before .summary .ensures .0) (omega arith)), (omega arith, lines-few _ (c .before .before .before .before .before .before .before .before .before .before .args .out .now) _ _ (c .before .before .before .before .before .before .summary .ensures .0) (omega arith))))
 
 same-length : tie.Need-same-length
 same-length c = search needs

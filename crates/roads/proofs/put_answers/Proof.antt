@@ -2,7 +2,8 @@
 use Prim.Native.Nat.{_-_}
 use native.Mathlib.Omega.{arith}
 use lib.ListN.{length}
-use Rattle.grouping.proofs.Entries.{entered-long, Writing, writing-none, writing-room, writing-more, writing-end}
+use Rattle.lists.proofs.Entries.{entered-long}
+use Rattle.grouping.proofs.Entries.{Writing, writing-none, writing-room, writing-more, writing-end}
 use Rattle.roads.specs.Answers.{fields, answersOf}
 use Rattle.roads.proofs.Answering.{fields-long, fields-stored}
 use Rattle.roads.proofs.put_answers.Statement.{statement}

@@ -2,7 +2,8 @@
 use Prim.Native.Nat.{_-_}
 use native.Mathlib.Omega.{arith}
 use lib.ListN.{length}
-use Rattle.grouping.proofs.Entries.{entered-long, Writing, writing-none, writing-room, writing-more, writing-end}
+use Rattle.lists.proofs.Entries.{entered-long}
+use Rattle.grouping.proofs.Entries.{Writing, writing-none, writing-room, writing-more, writing-end}
 use Rattle.summary.specs.Summary.{entry}
 use Rattle.summary.proofs.Entries.{entry-long}
 use Rattle.summary.proofs.put_entries.Statement.{statement}

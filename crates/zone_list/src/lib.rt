@@ -1,0 +1,334 @@
+// The zone list of a register: for each write its row, the direction of its zone, and the recorded stamps of the zone's ends.
+use history::Answer;
+use history::Op;
+use history::Row;
+use methods::Zone;
+ghost use mathlib.Core.Path.{_≡_};
+ghost use mathlib.Core.List.{List, [], _∷_, flatMap};
+ghost use Prim.Native.Nat.{ℕ, _+_, _*_, _≤_, min};
+ghost use lib.ListN.{length};
+ghost use lib.Seq.{sets};
+ghost use Rattle.history.specs.Table.{largestCount, rowCount, history, Alike};
+ghost use Rattle.history.specs.Screen.{Screened};
+ghost use Rattle.methods.specs.Zones.{forward};
+ghost use Rattle.methods.specs.Mark.{written};
+ghost use Rattle.ranking.specs.Ranked.{Fit};
+ghost use Rattle.positions.specs.Columns.{Cols, cols};
+ghost use Rattle.columns.specs.Rows.{Listed};
+ghost use Rattle.columns.specs.Made.{Room, Made};
+ghost use Rattle.zones.specs.Zones.{Inside};
+ghost use Rattle.zone_list.specs.ZoneList.{directed, outcome, zoneCall};
+ghost use Rattle.zone_list.specs.Shown.{Shown};
+ghost use Rattle.zone_list.specs.Stamps.{Fits, Ended, numbersAt, Begun, Laid, OfRows, Filled};
+
+// The numbers of a write.
+pub const NUMBERS: usize = 4;
+
+pub const FORWARD: u64 = 1;
+
+const BACKWARD: u64 = 2;
+
+// So many rows are few: short arrays do for them, which are sooner cleared than the long ones.
+pub const FEW: usize = 32;
+
+// Up to so many, arrays of a middle size do.
+pub const SOME: usize = 256;
+
+fn smaller(a: u64, b: u64) -> u64
+    ensures { λ r. ⌜ r ≡ min a b ⌝ }
+{
+    if a <= b { a } else { b }
+}
+
+// The smallest finish and the largest start of each cluster as they are recorded, at the place of its write; the one slice begins with the
+// largest stamp, the other with zeros.
+fn ends(table: &[u64], rows: &[u64], writer: &[u64], first: &mut [u64], last: &mut [u64])
+    requires { ⌜ Fit (now table) (now rows) ⌝ }
+    requires { ⌜ Fits (now rows) (now writer) ⌝ }
+    requires { ⌜ Ended (now table) (now rows) (now writer) 0 (now first) (now last) ⌝ }
+    ensures { λ _. ⌜ Ended (now (table .entry)) (now (rows .entry)) (now (writer .entry)) (length (now (rows .entry))) (now (first .exit)) (now (last .exit)) ⌝ }
+{
+    let mut i: usize = 0;
+    while i < rows.len() {
+        let o = Op::at(table, rows[i] as usize);
+        let w = writer[i] as usize;
+        i += 1;
+        first[w] = smaller(first[w], o.finish);
+        last[w] = zones::larger(last[w], o.start);
+    }
+}
+
+// Four numbers at a place of the list.
+fn put(row: u64, direction: u64, low: u64, high: u64, list: &mut [u64], at: usize)
+    requires { ⌜ at + 4 ≤ length (now list) ⌝ }
+    ensures { λ _. ⌜ now (list .exit) ≡ sets (now (list .entry)) at (row ∷ direction ∷ low ∷ high ∷ []) ⌝ }
+{
+    list[at] = row;
+    list[at + 1] = direction;
+    list[at + 2] = low;
+    list[at + 3] = high;
+}
+
+// Those of the write of a row, with the zone of its cluster.
+fn put_zone(row: u64, z: Zone, list: &mut [u64], at: usize)
+    requires { ⌜ at + 4 ≤ length (now list) ⌝ }
+    ensures { λ _. ⌜ now (list .exit) ≡ sets (now (list .entry)) at (row ∷ directed (forward z) z) ⌝ }
+{
+    if z.forward() {
+        put(row, FORWARD, z.finish, z.start, list, at);
+    } else {
+        put(row, BACKWARD, z.start, z.finish, list, at);
+    }
+}
+
+// Those of the listed writes, at the front of the list.
+fn put_zones(rows: &[u64], first: &[u64], last: &[u64], places: &[u64], list: &mut [u64])
+    requires { ⌜ length (now first) ≡ length (now rows) ⌝ }
+    requires { ⌜ length (now last) ≡ length (now rows) ⌝ }
+    requires { ⌜ Inside (now rows) (now places) ⌝ }
+    requires { ⌜ length (now places) * 4 ≤ length (now list) ⌝ }
+    ensures { λ _. ⌜ now (list .exit) ≡ written (flatMap (numbersAt (now (rows .entry)) (now (first .entry)) (now (last .entry))) (now (places .entry))) (now (list .entry)) ⌝ }
+{
+    let mut i: usize = 0;
+    while i < places.len() {
+        let w = places[i] as usize;
+        put_zone(rows[w], zones::zone_of(first, last, w), list, i * NUMBERS);
+        i += 1;
+    }
+}
+
+// The zones of the columns, the writes by low end, and their zone list where the list has the places; the number of writes. The two slices
+// for the recorded stamps begin with the largest stamp and with zeros.
+pub fn fill(
+    table: &[u64],
+    rows: &[u64],
+    start: &[u64],
+    finish: &[u64],
+    writer: &[u64],
+    chain: &[u64],
+    prev: &[u64],
+    low: &mut [u64],
+    late: &mut [u64],
+    places: &mut [u64],
+    first: &mut [u64],
+    last: &mut [u64],
+    list: &mut [u64],
+) -> usize
+    ghost { Cols }
+    requires { λ C. ⌜ cols (now start) (now finish) (now writer) (now chain) (now prev) ≡ C ⌝ }
+    requires { λ C. ⌜ Made (now table) (now rows) C ⌝ }
+    requires { λ C. ⌜ ((register : ℕ) × Listed (now table) register (now rows)) ⌝ }
+    requires { λ C. ⌜ Begun (now rows) (now late) (now places) (now first) (now last) ⌝ }
+    requires { λ C. ⌜ length (now rows) ≤ length (now low) ⌝ }
+    requires { λ C. ⌜ length (now rows) ≤ largestCount ⌝ }
+    ensures { λ C r. ⌜ Filled (now (table .entry)) (now (rows .entry)) C (now (late .exit)) (now (places .exit)) r (now (list .entry)) (now (list .exit)) ⌝ }
+{
+    zones::lates(start, writer, chain, late);
+    let m = zones::by_low(finish, late, writer, low, places);
+    if m * NUMBERS <= list.len() {
+        ends(table, rows, writer, first, last);
+        put_zones(rows, first, last, &places[..m], list);
+    }
+    m
+}
+
+// The zone list of a screened register where the list has the places, from its rows by rising start, with slices for what is made on the way;
+// the number of writes.
+fn list_with(
+    table: &[u64],
+    rows: &[u64],
+    start: &mut [u64],
+    finish: &mut [u64],
+    writer: &mut [u64],
+    chain: &mut [u64],
+    prev: &mut [u64],
+    low: &mut [u64],
+    late: &mut [u64],
+    places: &mut [u64],
+    first: &mut [u64],
+    last: &mut [u64],
+    list: &mut [u64],
+) -> usize
+    requires { ⌜ Room (now rows) (now start) (now finish) (now writer) (now chain) (now prev) ⌝ }
+    requires { ⌜ ((register : ℕ) × Listed (now table) register (now rows)) ⌝ }
+    requires { ⌜ Begun (now rows) (now late) (now places) (now first) (now last) ⌝ }
+    requires { ⌜ length (now rows) ≤ length (now low) ⌝ }
+    requires { ⌜ length (now rows) ≤ largestCount ⌝ }
+    ensures { λ r. ⌜ OfRows (now (table .entry)) (now (rows .entry)) r (now (list .entry)) (now (list .exit)) ⌝ }
+{
+    columns::fill(table, rows, start, finish, writer, chain, prev);
+    fill(
+        table,
+        rows,
+        start,
+        finish,
+        writer,
+        chain,
+        prev,
+        low,
+        late,
+        places,
+        first,
+        last,
+        list,
+    )
+}
+
+// The zone list of a screened register of few rows, from these by rising start.
+fn list_few(table: &[u64], rows: &[u64], list: &mut [u64]) -> usize
+    requires { ⌜ ((register : ℕ) × Listed (now table) register (now rows)) ⌝ }
+    requires { ⌜ length (now rows) ≤ 32 ⌝ }
+    ensures { λ r. ⌜ OfRows (now (table .entry)) (now (rows .entry)) r (now (list .entry)) (now (list .exit)) ⌝ }
+{
+    let n = rows.len();
+    let mut start = [0u64; FEW];
+    let mut finish = [0u64; FEW];
+    let mut writer = [0u64; FEW];
+    let mut chain = [0u64; FEW];
+    let mut prev = [0u64; FEW];
+    let mut low = [0u64; FEW];
+    let mut late = [0u64; FEW];
+    let mut places = [0u64; FEW];
+    let mut first = [Row::LARGEST_STAMP; FEW];
+    let mut last = [0u64; FEW];
+    list_with(
+        table,
+        rows,
+        &mut start[..n],
+        &mut finish[..n],
+        &mut writer[..n],
+        &mut chain[..n],
+        &mut prev[..n],
+        &mut low,
+        &mut late[..n],
+        &mut places[..n],
+        &mut first[..n],
+        &mut last[..n],
+        list,
+    )
+}
+
+// The same for up to 256 rows.
+fn list_some(table: &[u64], rows: &[u64], list: &mut [u64]) -> usize
+    requires { ⌜ ((register : ℕ) × Listed (now table) register (now rows)) ⌝ }
+    requires { ⌜ length (now rows) ≤ 256 ⌝ }
+    ensures { λ r. ⌜ OfRows (now (table .entry)) (now (rows .entry)) r (now (list .entry)) (now (list .exit)) ⌝ }
+{
+    let n = rows.len();
+    let mut start = [0u64; SOME];
+    let mut finish = [0u64; SOME];
+    let mut writer = [0u64; SOME];
+    let mut chain = [0u64; SOME];
+    let mut prev = [0u64; SOME];
+    let mut low = [0u64; SOME];
+    let mut late = [0u64; SOME];
+    let mut places = [0u64; SOME];
+    let mut first = [Row::LARGEST_STAMP; SOME];
+    let mut last = [0u64; SOME];
+    list_with(
+        table,
+        rows,
+        &mut start[..n],
+        &mut finish[..n],
+        &mut writer[..n],
+        &mut chain[..n],
+        &mut prev[..n],
+        &mut low,
+        &mut late[..n],
+        &mut places[..n],
+        &mut first[..n],
+        &mut last[..n],
+        list,
+    )
+}
+
+// The same for as many rows as a table has.
+fn list_many(table: &[u64], rows: &[u64], list: &mut [u64]) -> usize
+    requires { ⌜ ((register : ℕ) × Listed (now table) register (now rows)) ⌝ }
+    requires { ⌜ length (now rows) ≤ largestCount ⌝ }
+    ensures { λ r. ⌜ OfRows (now (table .entry)) (now (rows .entry)) r (now (list .entry)) (now (list .exit)) ⌝ }
+{
+    let n = rows.len();
+    let mut start = [0u64; Row::LARGEST_COUNT];
+    let mut finish = [0u64; Row::LARGEST_COUNT];
+    let mut writer = [0u64; Row::LARGEST_COUNT];
+    let mut chain = [0u64; Row::LARGEST_COUNT];
+    let mut prev = [0u64; Row::LARGEST_COUNT];
+    let mut low = [0u64; Row::LARGEST_COUNT];
+    let mut late = [0u64; Row::LARGEST_COUNT];
+    let mut places = [0u64; Row::LARGEST_COUNT];
+    let mut first = [Row::LARGEST_STAMP; Row::LARGEST_COUNT];
+    let mut last = [0u64; Row::LARGEST_COUNT];
+    list_with(
+        table,
+        rows,
+        &mut start[..n],
+        &mut finish[..n],
+        &mut writer[..n],
+        &mut chain[..n],
+        &mut prev[..n],
+        &mut low,
+        &mut late[..n],
+        &mut places[..n],
+        &mut first[..n],
+        &mut last[..n],
+        list,
+    )
+}
+
+// The zone list of a screened register, from its rows by rising start.
+fn list_rows(table: &[u64], rows: &[u64], list: &mut [u64]) -> usize
+    requires { ⌜ ((register : ℕ) × Listed (now table) register (now rows)) ⌝ }
+    requires { ⌜ length (now rows) ≤ largestCount ⌝ }
+    ensures { λ r. ⌜ OfRows (now (table .entry)) (now (rows .entry)) r (now (list .entry)) (now (list .exit)) ⌝ }
+{
+    let n = rows.len();
+    if n <= FEW {
+        return list_few(table, rows, list);
+    }
+    if n <= SOME {
+        return list_some(table, rows, list);
+    }
+    list_many(table, rows, list)
+}
+
+// The zone list of a register that passes the screening, with a place for each row of the table.
+fn list_register(table: &[u64], register: u64, rows: &mut [u64], list: &mut [u64]) -> usize
+    requires { ⌜ Screened (length (now table)) (history (now table) register) ⌝ }
+    requires { ⌜ rowCount (now table) ≤ length (now rows) ⌝ }
+    ensures { λ r. ⌜ Laid (history (now (table .entry)) register) r (now (list .entry)) (now (list .exit)) ⌝ }
+{
+    let n = columns::rows_by_start(table, register, rows);
+    list_rows(table, &rows[..n], list)
+}
+
+// The zone list of a register that passes the screening, at the front of the list where that has four places a write; the number of writes.
+pub fn list_screened(table: &[u64], register: u64, list: &mut [u64]) -> usize
+    requires { ⌜ Screened (length (now table)) (history (now table) register) ⌝ }
+    ensures { λ r. ⌜ Laid (history (now (table .entry)) register) r (now (list .entry)) (now (list .exit)) ⌝ }
+{
+    if table.len() / Row::COLUMNS <= FEW {
+        let mut few = [0u64; FEW];
+        return list_register(table, register, &mut few, list);
+    }
+    let mut rows = [0u64; Row::LARGEST_COUNT];
+    list_register(table, register, &mut rows, list)
+}
+
+// The zone list at the front of the lent list: four numbers a write, by rising low end: its row, 1 for forward or 2 for backward, low stamp,
+// high stamp. A refusal leaves the list as it was.
+pub fn write(table: &[u64], register: u64, list: &mut [u64]) -> Answer
+    ensures outcome { λ r. ⌜ outcome r (now (list .exit)) ≡ zoneCall (now (table .entry)) register (now (list .entry)) ⌝ }
+    ensures shown { λ r. ⌜ (r .code ≡ 0 → Shown (history (now (table .entry)) register) (now (list .exit))) ⌝ }
+    ensures alike { λ r. ⌜ ((u : List ℕ) → Alike (now (table .entry)) u register → outcome r (now (list .exit)) ≡ zoneCall u register (now (list .entry))) ⌝ }
+{
+    let met = screening::screen(table, register);
+    if met.code != 0 {
+        return met;
+    }
+    let m = list_screened(table, register, list);
+    if list.len() < m * NUMBERS {
+        return Answer::refused(Answer::SHORT_LIST, 0);
+    }
+    met
+}

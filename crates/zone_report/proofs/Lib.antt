@@ -1,0 +1,2 @@
+-- The text from the zone list.
+pub mod Lines

@@ -1,0 +1,2 @@
+-- The zone list as text.
+pub mod Text
