@@ -6,45 +6,21 @@ use mathlib.Core.Logic.{_≢_}
 use mathlib.Core.Bool.{false}
 use mathlib.Core.List.{List}
 use native.Mathlib.Omega.{arith}
-use lib.ListN.{length, getD, take, replicate, getD-replicate}
-use lib.Seq.{getD-take}
+use lib.ListN.{length}
 use borrow.Author.Tests.{lt-ltb, le-ltb, eq-eqb, ne-eqb}
 use Rattle.history.specs.declared.Op.{Op}
 use Rattle.history.specs.declared.Answer.{Answer}
-use Rattle.history.specs.Table.{largestStamp, history, Alike}
+use Rattle.history.specs.Table.{history, Alike}
 use Rattle.history.specs.Answer.{short-list, refused, passed}
 use Rattle.history.specs.Screen.{Screened, tests, examined, screening}
 use Rattle.history.proofs.Rows.{same-history}
 use Rattle.history.proofs.Refusals.{no-fault-answer}
 use Rattle.history.proofs.Screened.{screened-no-fault}
 use Rattle.preparation.proofs.Rows.{history-rows}
-use Rattle.columns.proofs.Lent.{front-of}
 use Rattle.zone_list.specs.ZoneList.{zoneList, outcome, listed, zoneCall}
 use Rattle.zone_list.specs.Shown.{Shown}
-use Rattle.zone_list.specs.Stamps.{Begun, Laid}
+use Rattle.zone_list.specs.Stamps.{Laid}
 use Rattle.zone_list.proofs.Showing.{shown}
-
--- slices of arrays with m places
-module _ (m : ℕ) (rows : List ℕ) (h : length rows ≤ m) where
-  value-of : (v w : ℕ) → w < length (take {A = ℕ} (length rows) (replicate m v)) → getD (take {A = ℕ} (length rows) (replicate m v)) w 0 ≡ v
-  value-of v w l =
-      let k : w < length rows = omega (arith, front-of v m rows h) in
-      getD-take (length rows) (replicate m v) w 0 k ∙ getD-replicate {A = ℕ} m w v 0 (omega arith)
-
-  abbrev zeros : List ℕ
-  zeros = take {A = ℕ} (length rows) (replicate m 0)
-
-  pub begun-of : Begun rows zeros zeros (take {A = ℕ} (length rows) (replicate m largestStamp)) zeros
-  begun-of =
-      let e = front-of 0 m rows h in
-      record {
-        room-late = e;
-        room-places = e;
-        room-first = front-of largestStamp m rows h;
-        room-last = e;
-        begun-first = value-of largestStamp;
-        begun-last = value-of 0;
-      }
 
 module _ (t : List ℕ) (register : ℕ) (list : List ℕ) where
   alike-call : (u : List ℕ) → Alike t u register → zoneCall t register list ≡ zoneCall u register list

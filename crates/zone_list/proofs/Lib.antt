@@ -1,7 +1,7 @@
 -- The numbers by the columns are the defined zone list, which shows each write once and decides 1-atomicity.
 pub mod Comparing
 pub mod Clusters
-pub mod Ending
+pub mod Walking
 pub mod Listing
 pub mod Showing
 pub mod Calling

@@ -11,7 +11,8 @@ use lib.Seq.{sets, length-take-le}
 use Rattle.lists.specs.Lists.{keep}
 use Rattle.lists.specs.Sorts.{sort}
 use Rattle.lists.proofs.Entries.{flat-long}
-use Rattle.lists.proofs.Images.{getD-map}
+use Rattle.lists.proofs.Maps.{map-in}
+use Rattle.lists.proofs.Images.{getD-map, getD-in}
 use Rattle.history.specs.declared.Op.{Op}
 use Rattle.history.specs.Table.{largestStamp, opAt, history}
 use Rattle.methods.specs.declared.Zone.{Zone}
@@ -21,6 +22,7 @@ use Rattle.methods.specs.Place.{writes}
 use Rattle.methods.specs.Zones.{forward, zoneOf, lowFirst}
 use Rattle.methods.specs.Mark.{written}
 use Rattle.preparation.proofs.Rows.{history-rows}
+use Rattle.preparation.proofs.Timed.{from-sorted}
 use Rattle.positions.specs.Places.{upto}
 use Rattle.positions.specs.Columns.{Cols, size, wr, mine, nothing, op, Of, Sound}
 use Rattle.positions.proofs.Columns.{size-is, same-is, of-sound}
@@ -30,13 +32,13 @@ use Rattle.columns.specs.Made.{Made}
 use Rattle.columns.proofs.Listed.{listed-ops}
 use Rattle.columns.proofs.Made.{prepared-rows, value-at}
 use Rattle.columns.proofs.Lent.{rows-long as lent-long}
-use Rattle.zones.specs.Zones.{Ends, zoneBy, Lates, Zoned, writesAt, byLow, Inside}
+use Rattle.zones.specs.Zones.{Ends, Zoned, writesAt, byLow}
 use Rattle.zones.proofs.LastStarts.{sound-ends}
-use Rattle.zones.proofs.Zone.{write-at, lates-zoned}
-use Rattle.zones.proofs.ByLow.{write-of, zone-at, by-low, by-low-in, by-low-inside}
+use Rattle.zones.proofs.Zone.{write-at}
+use Rattle.zones.proofs.ByLow.{write-of, by-low, by-low-in, by-low-write}
 use Rattle.zone_list.specs.ZoneList.{stampsOf, directed, numbersOf, zoneList}
-use Rattle.zone_list.specs.Stamps.{Fits, Ended, numbersAt, Begun, Filled}
-use Rattle.zone_list.proofs.Clusters.{least-sort, greatest-sort, least-map, greatest-map, keep-at}
+use Rattle.zone_list.specs.Stamps.{stampsAt, Writes, numbersAt, Filled}
+use Rattle.zone_list.proofs.Clusters.{least-sort, greatest-sort, least-map, greatest-map, least-own, greatest-own, keep-at}
 use Rattle.zone_list.proofs.Comparing.{compares}
 
 -- four numbers stored one by one
@@ -59,8 +61,8 @@ directed-long n false s = refl
 pub numbers-long : (h H : List Op) (w : Op) → length (numbersOf h H w) ≡ 4
 numbers-long h H w = directed-long (w .row) (forward (zoneOf H w)) (stampsOf h w)
 
-pub four-at : (rows first last : List ℕ) (w : ℕ) → length (numbersAt rows first last w) ≡ 4
-four-at rows first last w = directed-long (getD rows w 0) (forward (zoneBy first last w)) (zoneBy first last w)
+pub four-at : (t rows writer : List ℕ) (w : ℕ) → length (numbersAt t rows writer w) ≡ 4
+four-at t rows writer w = directed-long (getD rows w 0) (forward (stampsAt t rows writer w)) (stampsAt t rows writer w)
 
 -- what is joined of each element is joined of its image
 flat-map : (f : ℕ → List ℕ) (k : Op → List ℕ) (q : ℕ → Op) (l : List ℕ) → ((x : ℕ) → In x l → f x ≡ k (q x)) → flatMap f l ≡ flatMap k (map q l)
@@ -86,12 +88,18 @@ module _ {t : List ℕ} {register : ℕ} {rows : List ℕ} (g : Listed t registe
   pub made-size : size C ≡ length rows
   made-size = omega (arith, size-is of, rows-long)
 
+  -- a finish is no more than the largest stamp
+  stamp-small : (j : ℕ) → j < length rows → rowOp t rows j .finish ≤ largestStamp
+  stamp-small j l =
+      let m = rw (sym (listed-ops g)) at (map-in (opAt t) (getD-in rows 0 j l)) in
+      g .screened .spans (rowOp t rows j) (from-sorted (rowOp t rows j) m) .1
+
   pub made-sound : Sound C
   made-sound = of-sound of (m .chains)
 
-  -- the columns of writers and of finishes have a place for each row
-  pub writers-fit : Fits rows (C .writer)
-  writers-fit = record { long = of .long ∙ sym rows-long; inside = λ j l. omega (arith, rows-long, of .inside j (omega (arith, rows-long))) }
+  -- the column of writers has a place for each row
+  pub writers-long : length (C .writer) ≡ length rows
+  writers-long = of .long ∙ sym rows-long
 
   -- what is taken for the largest starts, and for the writes by low end
   pub lates-take : {late : ℕ} → late ≡ length rows → Ends (C .start) (C .writer) (C .last) × (late ≡ length (C .start))
@@ -101,10 +109,10 @@ module _ {t : List ℕ} {register : ℕ} {rows : List ℕ} (g : Listed t registe
       (length (C .finish) ≡ length (C .writer)) × ((late ≡ length (C .finish)) × ((length (C .writer) ≤ low) × (length (C .writer) ≤ places)))
   low-takes a b c =
       let f = made-sound .ending in
-      let w = writers-fit .long in
+      let w = writers-long in
       (omega (arith, f, w, made-size), (omega (arith, f, made-size), (omega (arith, w), omega (arith, w))))
 
-  module _ (first last : List ℕ) (e : Ended t rows (C .writer) (length rows) first last) (w : ℕ) (q : In w (writesAt (C .writer))) where
+  module _ (w : ℕ) (q : In w (writesAt (C .writer))) where
     abbrev p : ℕ → List ℕ
     p n = upto (mine (C .writer) w) n
 
@@ -122,19 +130,22 @@ module _ {t : List ℕ} {register : ℕ} {rows : List ℕ} (g : Listed t registe
     cluster-rows = ap (keep (sameValue (op H w))) (listed-ops g) ∙ keep-at (opAt t) rows (sameValue (op H w)) (mine (C .writer) w) same
 
     -- its smallest finish and its largest start
-    stamps-at : stampsOf h (op H w) ≡ zoneBy first last w
+    stamps-at : stampsOf h (op H w) ≡ stampsAt t rows (C .writer) w
     unfolding stampsOf byStart
     stamps-at =
-        let a : least (λ o. o .finish) largestStamp (keep (sameValue (op H w)) h) ≡ getD first w 0 =
+        let k = write-of of q in
+        let a : least (λ o. o .finish) largestStamp (keep (sameValue (op H w)) h) ≡ stampsAt t rows (C .writer) w .finish =
         sym (least-sort (λ o. o .finish) largestStamp (sameValue (op H w)) startsFirst h)
         ∙ ap (least (λ o. o .finish) largestStamp) cluster-rows
         ∙ least-map (λ o. o .finish) largestStamp (rowOp t rows) (p (length rows))
-        ∙ sym (e .firsts w (omega (arith, below-rows, e .size-first))) in
-        let b : greatest (λ o. o .start) 0 (keep (sameValue (op H w)) h) ≡ getD last w 0 =
+        ∙ ap (λ (n : ℕ). least (λ j. rowOp t rows j .finish) largestStamp (p n)) (sym writers-long)
+        ∙ least-own (C .writer) w (k .1) (λ j. rowOp t rows j .finish) largestStamp (omega (arith, below-rows, writers-long)) (stamp-small w below-rows) in
+        let b : greatest (λ o. o .start) 0 (keep (sameValue (op H w)) h) ≡ stampsAt t rows (C .writer) w .start =
         sym (greatest-sort (λ o. o .start) 0 (sameValue (op H w)) startsFirst h)
         ∙ ap (greatest (λ o. o .start) 0) cluster-rows
         ∙ greatest-map (λ o. o .start) 0 (rowOp t rows) (p (length rows))
-        ∙ sym (e .lasts w (omega (arith, below-rows, e .size-last))) in
+        ∙ ap (λ (n : ℕ). greatest (λ j. rowOp t rows j .start) 0 (p n)) (sym writers-long)
+        ∙ greatest-own (C .writer) w (k .1) (λ j. rowOp t rows j .start) (omega (arith, below-rows, writers-long)) in
         rw (a, b) refl
 
     row-at : getD rows w 0 ≡ op H w .row
@@ -145,7 +156,7 @@ module _ {t : List ℕ} {register : ℕ} {rows : List ℕ} (g : Listed t registe
     ahead = let k = write-of of q in let o = write-at of w (k .0) (k .1) in sym (compares (g .screened) (history-rows t register) o o)
 
     -- the four numbers
-    numbers-at : numbersAt rows first last w ≡ numbersOf h H (op H w)
+    numbers-at : numbersAt t rows (C .writer) w ≡ numbersOf h H (op H w)
     numbers-at =
         ap (λ (z : Zone). getD rows w 0 ∷ directed (forward z) z) (sym stamps-at)
         ∙ ap (λ (n : ℕ). n ∷ directed (forward (stampsOf h (op H w))) (stampsOf h (op H w))) row-at
@@ -164,32 +175,25 @@ module _ {t : List ℕ} {register : ℕ} {rows : List ℕ} (g : Listed t registe
         ∙ ap (λ (n : ℕ). n * 4) (length-map L (op H))
 
     -- THE NUMBERS of the listed writes are the zone list
-    list-is : (first last : List ℕ) → Ended t rows (C .writer) (length rows) first last → flatMap (numbersAt rows first last) L ≡ zoneList h
+    list-is : flatMap (numbersAt t rows (C .writer)) L ≡ zoneList h
     unfolding zoneList
-    list-is first last e =
-        flat-map (numbersAt rows first last) (numbersOf h H) (op H) L (λ w k. numbers-at first last e w (by-low-in (C .finish) late (C .writer) k))
+    list-is =
+        flat-map (numbersAt t rows (C .writer)) (numbersOf h H) (op H) L (λ w k. numbers-at w (by-low-in (C .finish) late (C .writer) k))
         ∙ ap (flatMap (numbersOf h H)) (by-low of late z)
 
     module _ (n : ℕ) (places : List ℕ) (a : n ≤ length (C .writer)) (room : length places ≡ length rows) (b : take n places ≡ L) where
       front : n ≤ length places
-      front = omega (arith, a, writers-fit .long, room)
+      front = omega (arith, a, writers-long, room)
 
       pub places-long : length (take n places) ≡ n
       places-long = length-take-le n places front
 
       -- what is taken for their numbers
-      pub put-takes : Inside rows (take n places)
+      pub put-takes : Writes (C .writer) (take n places)
       put-takes i l = go (rw b at l)
         where
-          go : i < length L → getD (take n places) i 0 < length rows
-          go k =
-              rw b
-              (omega (
-                arith,
-                made-sound .ending,
-                made-size,
-                by-low-inside (C .finish) late (C .writer) (omega (arith, writers-fit .long, made-sound .ending, made-size)) i k,
-              ))
+          go : i < length L → (getD (take n places) i 0 < length (C .writer)) × (getD (C .writer) (getD (take n places) i 0) 0 ≡ getD (take n places) i 0)
+          go k = rw b (by-low-write (C .finish) late (C .writer) (getD-in L 0 i k))
 
       counted : length (zoneList h) ≡ n * 4
       counted = list-length ∙ ap (λ (k : ℕ). k * 4) (sym (ap length b) ∙ places-long)
@@ -198,7 +202,7 @@ module _ {t : List ℕ} {register : ℕ} {rows : List ℕ} (g : Listed t registe
 module _ {t rows : List ℕ} {C : Cols} (m : Made t rows C) (g : (register : ℕ) × Listed t register rows) (late : List ℕ) (z : Zoned C late) (n : ℕ) (places : List ℕ)
     (a : n ≤ length (C .writer)) (room : length places ≡ length rows) (b : take n places ≡ byLow (C .finish) late (C .writer)) where
   few : n ≤ length rows
-  few = omega (arith, a, writers-fit (g .1) m .long)
+  few = omega (arith, a, writers-long (g .1) m)
 
   -- where the list is too short
   pub fill-short : (old : List ℕ) → length old < n * 4 → Filled t rows C late places n old old
@@ -217,9 +221,9 @@ module _ {t rows : List ℕ} {C : Cols} (m : Made t rows C) (g : (register : ℕ
       }
 
   -- and where it is not
-  pub fill-full : (first last : List ℕ) → Ended t rows (C .writer) (length rows) first last → (old list : List ℕ) → n * 4 ≤ length old →
-      list ≡ written (flatMap (numbersAt rows first last) (take n places)) old → Filled t rows C late places n old list
-  fill-full first last e old list l q =
+  pub fill-full : (old list : List ℕ) → n * 4 ≤ length old → list ≡ written (flatMap (numbersAt t rows (C .writer)) (take n places)) old →
+      Filled t rows C late places n old list
+  fill-full old list l q =
       record {
         few = few;
         zoned = z;
@@ -229,6 +233,6 @@ module _ {t rows : List ℕ} {C : Cols} (m : Made t rows C) (g : (register : ℕ
               few = omega (arith, few, lent-long k);
               count = counted k m late z n places a room b;
               short = λ s. absurd (omega arith);
-              full = λ f. q ∙ ap (λ (x : List ℕ). written x old) (ap (flatMap (numbersAt rows first last)) b ∙ list-is k m late z first last e);
+              full = λ f. q ∙ ap (λ (x : List ℕ). written x old) (ap (flatMap (numbersAt t rows (C .writer))) b ∙ list-is k m late z);
             };
       }

@@ -5,21 +5,20 @@ use history::Row;
 use methods::Zone;
 ghost use mathlib.Core.Path.{_≡_};
 ghost use mathlib.Core.List.{List, [], _∷_, flatMap};
-ghost use Prim.Native.Nat.{ℕ, _+_, _*_, _≤_, min};
-ghost use lib.ListN.{length};
+ghost use Prim.Native.Nat.{ℕ, _+_, _*_, _≤_, _<_, min};
+ghost use lib.ListN.{length, getD};
 ghost use lib.Seq.{sets};
 ghost use Rattle.history.specs.Table.{largestCount, rowCount, history, Alike};
 ghost use Rattle.history.specs.Screen.{Screened};
 ghost use Rattle.methods.specs.Zones.{forward};
 ghost use Rattle.methods.specs.Mark.{written};
 ghost use Rattle.ranking.specs.Ranked.{Fit};
-ghost use Rattle.positions.specs.Columns.{Cols, cols};
+ghost use Rattle.positions.specs.Columns.{Cols, cols, Linked};
 ghost use Rattle.columns.specs.Rows.{Listed};
 ghost use Rattle.columns.specs.Made.{Room, Made};
-ghost use Rattle.zones.specs.Zones.{Inside};
 ghost use Rattle.zone_list.specs.ZoneList.{directed, outcome, zoneCall};
 ghost use Rattle.zone_list.specs.Shown.{Shown};
-ghost use Rattle.zone_list.specs.Stamps.{Fits, Ended, numbersAt, Begun, Laid, OfRows, Filled};
+ghost use Rattle.zone_list.specs.Stamps.{stampsAt, Writes, numbersAt, Laid, OfRows, Filled};
 
 // The numbers of a write.
 pub const NUMBERS: usize = 4;
@@ -40,21 +39,36 @@ fn smaller(a: u64, b: u64) -> u64
     if a <= b { a } else { b }
 }
 
-// The smallest finish and the largest start of each cluster as they are recorded, at the place of its write; the one slice begins with the
-// largest stamp, the other with zeros.
-fn ends(table: &[u64], rows: &[u64], writer: &[u64], first: &mut [u64], last: &mut [u64])
+// The smallest finish and the largest start in the cluster of the write w as they are recorded, along the chain of its reads.
+fn stamps(
+    table: &[u64],
+    rows: &[u64],
+    writer: &[u64],
+    chain: &[u64],
+    prev: &[u64],
+    w: usize,
+) -> Zone
     requires { ⌜ Fit (now table) (now rows) ⌝ }
-    requires { ⌜ Fits (now rows) (now writer) ⌝ }
-    requires { ⌜ Ended (now table) (now rows) (now writer) 0 (now first) (now last) ⌝ }
-    ensures { λ _. ⌜ Ended (now (table .entry)) (now (rows .entry)) (now (writer .entry)) (length (now (rows .entry))) (now (first .exit)) (now (last .exit)) ⌝ }
+    requires { ⌜ length (now writer) ≡ length (now rows) ⌝ }
+    requires { ⌜ Linked (now writer) (now chain) (now prev) ⌝ }
+    requires { ⌜ w < length (now rows) ⌝ }
+    requires { ⌜ getD (now writer) w 0 ≡ w ⌝ }
+    ensures { λ r. ⌜ r ≡ stampsAt (now (table .entry)) (now (rows .entry)) (now (writer .entry)) w ⌝ }
 {
-    let mut i: usize = 0;
-    while i < rows.len() {
-        let o = Op::at(table, rows[i] as usize);
-        let w = writer[i] as usize;
-        i += 1;
-        first[w] = smaller(first[w], o.finish);
-        last[w] = zones::larger(last[w], o.start);
+    let own = Op::at(table, rows[w] as usize);
+    let mut finish = own.finish;
+    let mut start = own.start;
+    let mut k = chain[w] as usize;
+    while k > 0 {
+        let i = k - 1;
+        let read = Op::at(table, rows[i] as usize);
+        k = prev[i] as usize;
+        finish = smaller(finish, read.finish);
+        start = zones::larger(start, read.start);
+    }
+    Zone {
+        finish: finish,
+        start: start,
     }
 }
 
@@ -82,23 +96,32 @@ fn put_zone(row: u64, z: Zone, list: &mut [u64], at: usize)
 }
 
 // Those of the listed writes, at the front of the list.
-fn put_zones(rows: &[u64], first: &[u64], last: &[u64], places: &[u64], list: &mut [u64])
-    requires { ⌜ length (now first) ≡ length (now rows) ⌝ }
-    requires { ⌜ length (now last) ≡ length (now rows) ⌝ }
-    requires { ⌜ Inside (now rows) (now places) ⌝ }
+fn put_zones(
+    table: &[u64],
+    rows: &[u64],
+    writer: &[u64],
+    chain: &[u64],
+    prev: &[u64],
+    places: &[u64],
+    list: &mut [u64],
+)
+    requires { ⌜ Fit (now table) (now rows) ⌝ }
+    requires { ⌜ length (now writer) ≡ length (now rows) ⌝ }
+    requires { ⌜ Linked (now writer) (now chain) (now prev) ⌝ }
+    requires { ⌜ Writes (now writer) (now places) ⌝ }
     requires { ⌜ length (now places) * 4 ≤ length (now list) ⌝ }
-    ensures { λ _. ⌜ now (list .exit) ≡ written (flatMap (numbersAt (now (rows .entry)) (now (first .entry)) (now (last .entry))) (now (places .entry))) (now (list .entry)) ⌝ }
+    ensures { λ _. ⌜ now (list .exit) ≡ written (flatMap (numbersAt (now (table .entry)) (now (rows .entry)) (now (writer .entry))) (now (places .entry))) (now (list .entry)) ⌝ }
 {
     let mut i: usize = 0;
     while i < places.len() {
         let w = places[i] as usize;
-        put_zone(rows[w], zones::zone_of(first, last, w), list, i * NUMBERS);
+        let z = stamps(table, rows, writer, chain, prev, w);
+        put_zone(rows[w], z, list, i * NUMBERS);
         i += 1;
     }
 }
 
-// The zones of the columns, the writes by low end, and their zone list where the list has the places; the number of writes. The two slices
-// for the recorded stamps begin with the largest stamp and with zeros.
+// The zones of the columns, the writes by low end, and their zone list where the list has the places; the number of writes.
 pub fn fill(
     table: &[u64],
     rows: &[u64],
@@ -110,15 +133,14 @@ pub fn fill(
     low: &mut [u64],
     late: &mut [u64],
     places: &mut [u64],
-    first: &mut [u64],
-    last: &mut [u64],
     list: &mut [u64],
 ) -> usize
     ghost { Cols }
     requires { λ C. ⌜ cols (now start) (now finish) (now writer) (now chain) (now prev) ≡ C ⌝ }
     requires { λ C. ⌜ Made (now table) (now rows) C ⌝ }
     requires { λ C. ⌜ ((register : ℕ) × Listed (now table) register (now rows)) ⌝ }
-    requires { λ C. ⌜ Begun (now rows) (now late) (now places) (now first) (now last) ⌝ }
+    requires { λ C. ⌜ length (now late) ≡ length (now rows) ⌝ }
+    requires { λ C. ⌜ length (now places) ≡ length (now rows) ⌝ }
     requires { λ C. ⌜ length (now rows) ≤ length (now low) ⌝ }
     requires { λ C. ⌜ length (now rows) ≤ largestCount ⌝ }
     ensures { λ C r. ⌜ Filled (now (table .entry)) (now (rows .entry)) C (now (late .exit)) (now (places .exit)) r (now (list .entry)) (now (list .exit)) ⌝ }
@@ -126,8 +148,7 @@ pub fn fill(
     zones::lates(start, writer, chain, late);
     let m = zones::by_low(finish, late, writer, low, places);
     if m * NUMBERS <= list.len() {
-        ends(table, rows, writer, first, last);
-        put_zones(rows, first, last, &places[..m], list);
+        put_zones(table, rows, writer, chain, prev, &places[..m], list);
     }
     m
 }
@@ -145,13 +166,12 @@ fn list_with(
     low: &mut [u64],
     late: &mut [u64],
     places: &mut [u64],
-    first: &mut [u64],
-    last: &mut [u64],
     list: &mut [u64],
 ) -> usize
     requires { ⌜ Room (now rows) (now start) (now finish) (now writer) (now chain) (now prev) ⌝ }
     requires { ⌜ ((register : ℕ) × Listed (now table) register (now rows)) ⌝ }
-    requires { ⌜ Begun (now rows) (now late) (now places) (now first) (now last) ⌝ }
+    requires { ⌜ length (now late) ≡ length (now rows) ⌝ }
+    requires { ⌜ length (now places) ≡ length (now rows) ⌝ }
     requires { ⌜ length (now rows) ≤ length (now low) ⌝ }
     requires { ⌜ length (now rows) ≤ largestCount ⌝ }
     ensures { λ r. ⌜ OfRows (now (table .entry)) (now (rows .entry)) r (now (list .entry)) (now (list .exit)) ⌝ }
@@ -168,8 +188,6 @@ fn list_with(
         low,
         late,
         places,
-        first,
-        last,
         list,
     )
 }
@@ -189,8 +207,6 @@ fn list_few(table: &[u64], rows: &[u64], list: &mut [u64]) -> usize
     let mut low = [0u64; FEW];
     let mut late = [0u64; FEW];
     let mut places = [0u64; FEW];
-    let mut first = [Row::LARGEST_STAMP; FEW];
-    let mut last = [0u64; FEW];
     list_with(
         table,
         rows,
@@ -202,8 +218,6 @@ fn list_few(table: &[u64], rows: &[u64], list: &mut [u64]) -> usize
         &mut low,
         &mut late[..n],
         &mut places[..n],
-        &mut first[..n],
-        &mut last[..n],
         list,
     )
 }
@@ -223,8 +237,6 @@ fn list_some(table: &[u64], rows: &[u64], list: &mut [u64]) -> usize
     let mut low = [0u64; SOME];
     let mut late = [0u64; SOME];
     let mut places = [0u64; SOME];
-    let mut first = [Row::LARGEST_STAMP; SOME];
-    let mut last = [0u64; SOME];
     list_with(
         table,
         rows,
@@ -236,8 +248,6 @@ fn list_some(table: &[u64], rows: &[u64], list: &mut [u64]) -> usize
         &mut low,
         &mut late[..n],
         &mut places[..n],
-        &mut first[..n],
-        &mut last[..n],
         list,
     )
 }
@@ -257,8 +267,6 @@ fn list_many(table: &[u64], rows: &[u64], list: &mut [u64]) -> usize
     let mut low = [0u64; Row::LARGEST_COUNT];
     let mut late = [0u64; Row::LARGEST_COUNT];
     let mut places = [0u64; Row::LARGEST_COUNT];
-    let mut first = [Row::LARGEST_STAMP; Row::LARGEST_COUNT];
-    let mut last = [0u64; Row::LARGEST_COUNT];
     list_with(
         table,
         rows,
@@ -270,8 +278,6 @@ fn list_many(table: &[u64], rows: &[u64], list: &mut [u64]) -> usize
         &mut low,
         &mut late[..n],
         &mut places[..n],
-        &mut first[..n],
-        &mut last[..n],
         list,
     )
 }

@@ -17,7 +17,6 @@ ghost use Rattle.placing.specs.Searched.{Searched};
 ghost use Rattle.columns.specs.Rows.{Listed};
 ghost use Rattle.columns.specs.Made.{Made};
 ghost use Rattle.zones.specs.Zones.{Zoned, byLow};
-ghost use Rattle.zone_list.specs.Stamps.{Begun};
 ghost use Rattle.zone_method.specs.Deciding.{zoneAt, decides};
 ghost use Rattle.zone_method.specs.Lay.{Whole, Lays};
 
@@ -145,8 +144,6 @@ fn search_with(
     prev: &[u64],
     late: &mut [u64],
     places: &mut [u64],
-    first: &mut [u64],
-    last: &mut [u64],
     list: &mut [u64],
     placed: &mut [u8],
     order: &mut [u64],
@@ -156,7 +153,8 @@ fn search_with(
     requires { λ C. ⌜ Made (now table) (now rows) C ⌝ }
     requires { λ C. ⌜ ((register : ℕ) × Listed (now table) register (now rows)) ⌝ }
     requires { λ C. ⌜ length (now rows) ≤ largestCount ⌝ }
-    requires { λ C. ⌜ Begun (now rows) (now late) (now places) (now first) (now last) ⌝ }
+    requires { λ C. ⌜ length (now late) ≡ length (now rows) ⌝ }
+    requires { λ C. ⌜ length (now places) ≡ length (now rows) ⌝ }
     requires { λ C. ⌜ length (now rows) * 4 ≤ length (now list) ⌝ }
     requires { λ C. ⌜ length (now rows) ≤ length (now placed) ⌝ }
     requires { λ C. ⌜ ((i : ℕ) → i < length (now placed) → isFree (now placed) i ≡ true) ⌝ }
@@ -175,8 +173,6 @@ fn search_with(
         order,
         late,
         places,
-        first,
-        last,
         list,
     );
     let one = decide(list, m);
@@ -216,8 +212,6 @@ fn search_few(
     let n = rows.len();
     let mut late = [0u64; zone_list::FEW];
     let mut places = [0u64; zone_list::FEW];
-    let mut first = [Row::LARGEST_STAMP; zone_list::FEW];
-    let mut last = [0u64; zone_list::FEW];
     let mut list = [0u64; FEW_NUMBERS];
     let mut placed = [0u8; zone_list::FEW];
     search_with(
@@ -230,8 +224,6 @@ fn search_few(
         prev,
         &mut late[..n],
         &mut places[..n],
-        &mut first[..n],
-        &mut last[..n],
         &mut list,
         &mut placed,
         order,
@@ -260,8 +252,6 @@ fn search_some(
     let n = rows.len();
     let mut late = [0u64; zone_list::SOME];
     let mut places = [0u64; zone_list::SOME];
-    let mut first = [Row::LARGEST_STAMP; zone_list::SOME];
-    let mut last = [0u64; zone_list::SOME];
     let mut list = [0u64; SOME_NUMBERS];
     let mut placed = [0u8; zone_list::SOME];
     search_with(
@@ -274,8 +264,6 @@ fn search_some(
         prev,
         &mut late[..n],
         &mut places[..n],
-        &mut first[..n],
-        &mut last[..n],
         &mut list,
         &mut placed,
         order,
@@ -304,8 +292,6 @@ fn search_many(
     let n = rows.len();
     let mut late = [0u64; Row::LARGEST_COUNT];
     let mut places = [0u64; Row::LARGEST_COUNT];
-    let mut first = [Row::LARGEST_STAMP; Row::LARGEST_COUNT];
-    let mut last = [0u64; Row::LARGEST_COUNT];
     let mut list = [0u64; LARGEST_NUMBERS];
     let mut placed = [0u8; Row::LARGEST_COUNT];
     search_with(
@@ -318,8 +304,6 @@ fn search_many(
         prev,
         &mut late[..n],
         &mut places[..n],
-        &mut first[..n],
-        &mut last[..n],
         &mut list,
         &mut placed,
         order,

@@ -1,9 +1,7 @@
 -- Each array has a place for each row.
 use mathlib.Core.Path.{sym}
 use native.Mathlib.Omega.{arith}
-use Rattle.history.specs.Table.{largestStamp}
 use Rattle.columns.proofs.Lent.{front-of, room-of}
-use Rattle.zone_list.proofs.Calling.{begun-of}
 use borrow.Author.Needs.{needs}
 use Rattle.zone_list.proofs.list_many.Statement.{statement}
 use Rattle.zone_list.proofs.list_many.Tie as tie
@@ -56,21 +54,11 @@ array-borrow-prefix-places c = search needs
 slice-aggregate-list-with-8 : tie.Need-slice-aggregate-list-with-8
 slice-aggregate-list-with-8 c = sym (front-of 0 1024 (c .before .before .before .before .before .before .before .before .before .before .before .args .rows .now) (c .before .before .before .before .before .before .before .before .before .before .before .pre .1))
 
-array-borrow-prefix-first : tie.Need-array-borrow-prefix-first
-array-borrow-prefix-first c = search needs
-
-slice-aggregate-list-with-9 : tie.Need-slice-aggregate-list-with-9
-slice-aggregate-list-with-9 c = sym (front-of largestStamp 1024 (c .before .before .before .before .before .before .before .before .before .before .before .before .args .rows .now) (c .before .before .before .before .before .before .before .before .before .before .before .before .pre .1))
-
-array-borrow-prefix-last : tie.Need-array-borrow-prefix-last
-array-borrow-prefix-last c = search needs
-
-slice-aggregate-list-with-10 : tie.Need-slice-aggregate-list-with-10
-slice-aggregate-list-with-10 c = sym (front-of 0 1024 (c .before .before .before .before .before .before .before .before .before .before .before .before .before .args .rows .now) (c .before .before .before .before .before .before .before .before .before .before .before .before .before .pre .1))
-
 list-with-requires : tie.Need-list-with-requires
 list-with-requires c κs =
-    let q = c .before .before .before .before .before .before .before .before .before .before .before .before .before .before .pre in (room-of 1024 _ (q .1), (q .0, (begun-of 1024 _ (q .1), (q .1, omega (arith, q .1)))))
+    let q = c .before .before .before .before .before .before .before .before .before .before .before .before .pre in
+    let e = front-of 0 1024 (c .before .before .before .before .before .before .before .before .before .before .before .before .args .rows .now) (q .1) in
+    (room-of 1024 _ (q .1), (q .0, (e, (e, (q .1, omega (arith, q .1))))))
 
 same-length : tie.Need-same-length
 same-length c = search needs
@@ -97,10 +85,6 @@ list-many-spec =
     slice-aggregate-list-with-7
     array-borrow-prefix-places
     slice-aggregate-list-with-8
-    array-borrow-prefix-first
-    slice-aggregate-list-with-9
-    array-borrow-prefix-last
-    slice-aggregate-list-with-10
     list-with-requires
     same-length
     returns)

@@ -1,10 +1,8 @@
 -- Each array has its places for each row, and no mark is set.
 use mathlib.Core.Path.{sym}
 use native.Mathlib.Omega.{arith}
-use Rattle.history.specs.Table.{largestStamp}
 use Rattle.placing.proofs.Begun.{unmarked}
 use Rattle.columns.proofs.Lent.{front-of}
-use Rattle.zone_list.proofs.Calling.{begun-of}
 use borrow.Author.Needs.{needs}
 use Rattle.zone_method.proofs.search_few.Statement.{statement}
 use Rattle.zone_method.proofs.search_few.Tie as tie
@@ -24,28 +22,17 @@ array-borrow-prefix-places c = search needs
 slice-aggregate-search-with-2 : tie.Need-slice-aggregate-search-with-2
 slice-aggregate-search-with-2 c = sym (front-of 0 32 (c .before .before .before .before .before .before .before .before .before .before .args .rows .now) (c .before .before .before .before .before .before .before .before .before .before .pre .1 .1 .0))
 
-array-borrow-prefix-first : tie.Need-array-borrow-prefix-first
-array-borrow-prefix-first c = search needs
-
 slice-aggregate-search-with-3 : tie.Need-slice-aggregate-search-with-3
-slice-aggregate-search-with-3 c = sym (front-of largestStamp 32 (c .before .before .before .before .before .before .before .before .before .before .before .args .rows .now) (c .before .before .before .before .before .before .before .before .before .before .before .pre .1 .1 .0))
-
-array-borrow-prefix-last : tie.Need-array-borrow-prefix-last
-array-borrow-prefix-last c = search needs
+slice-aggregate-search-with-3 c = search needs
 
 slice-aggregate-search-with-4 : tie.Need-slice-aggregate-search-with-4
-slice-aggregate-search-with-4 c = sym (front-of 0 32 (c .before .before .before .before .before .before .before .before .before .before .before .before .args .rows .now) (c .before .before .before .before .before .before .before .before .before .before .before .before .pre .1 .1 .0))
-
-slice-aggregate-search-with-5 : tie.Need-slice-aggregate-search-with-5
-slice-aggregate-search-with-5 c = search needs
-
-slice-aggregate-search-with-6 : tie.Need-slice-aggregate-search-with-6
-slice-aggregate-search-with-6 c = search needs
+slice-aggregate-search-with-4 c = search needs
 
 search-with-requires : tie.Need-search-with-requires
 search-with-requires c κs =
-    let q = c .before .before .before .before .before .before .before .before .before .before .before .before .before .before .before .pre in
-    (q .0, (q .1 .0, (omega (arith, q .1 .1 .0), (begun-of 32 _ (q .1 .1 .0), (omega (arith, q .1 .1 .0), (q .1 .1 .0, (unmarked 32, q .1 .1 .1)))))))
+    let q = c .before .before .before .before .before .before .before .before .before .before .before .before .before .pre in
+    let e = front-of 0 32 (c .before .before .before .before .before .before .before .before .before .before .before .before .before .args .rows .now) (q .1 .1 .0) in
+    (q .0, (q .1 .0, (omega (arith, q .1 .1 .0), (e, (e, (omega (arith, q .1 .1 .0), (q .1 .1 .0, (unmarked 32, q .1 .1 .1))))))))
 
 same-length : tie.Need-same-length
 same-length c = search needs
@@ -61,12 +48,8 @@ search-few-spec =
     slice-aggregate-search-with
     array-borrow-prefix-places
     slice-aggregate-search-with-2
-    array-borrow-prefix-first
     slice-aggregate-search-with-3
-    array-borrow-prefix-last
     slice-aggregate-search-with-4
-    slice-aggregate-search-with-5
-    slice-aggregate-search-with-6
     search-with-requires
     same-length
     returns)

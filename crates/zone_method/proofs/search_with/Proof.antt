@@ -14,38 +14,39 @@ use Rattle.zone_method.proofs.decide.Reads as decide-reads
 use Rattle.zone_method.proofs.settle.Reads as settle-reads
 
 fill-requires : tie.Need-fill-requires
-fill-requires c κs = let q = c .before .before .before .before .before .before .before .before .before .before .before .before .before .before .before .before .before .before .before .before .pre in (q .0, (q .1 .0, (q .1 .1 .1 .0, (q .1 .1 .1 .1 .1 .1 .1, q .1 .1 .0))))
+fill-requires c κs = let q = c .before .before .before .before .before .before .before .before .before .before .before .before .before .before .before .before .pre in (q .0, (q .1 .0, (q .1 .1 .1 .0, (q .1 .1 .1 .1 .0, (q .1 .1 .1 .1 .1 .1 .1 .1, q .1 .1 .0)))))
 
 decide-requires : tie.Need-decide-requires
 decide-requires c κs =
-    let q = c .before .before .before .before .before .before .before .before .before .before .before .before .before .before .before .before .before .before .before .before .before .before .before .before .before .before .before .before .before .before .before .before .before .before .pre in
-    let f = c .before .before .before .before .before .before .before .before .before .before .before .before .before .fill in
-    omega (arith, f .ensures .few, f .kept .1 .1 .1 .1 .1 .1 .1 .1 .1 .1 .1 .1 .0, q .1 .1 .1 .1 .0)
+    let q = c .before .before .before .before .before .before .before .before .before .before .before .before .before .before .before .before .before .before .before .before .before .before .before .before .before .before .pre in
+    let f = c .before .before .before .before .before .before .before .before .before .fill in
+    omega (arith, f .ensures .few, f .kept .1 .1 .1 .1 .1 .1 .1 .1 .1 .1 .0, q .1 .1 .1 .1 .1 .0)
 
 slice-reshare-prefix-settle : tie.Need-slice-reshare-prefix-settle
 slice-reshare-prefix-settle c =
-    let q = c .before .before .before .before .before .before .before .before .before .before .before .before .before .before .before .before .before .before .before .before .before .before .before .before .before .before .before .before .before .before .before .before .before .before .before .before .pre in
-    let f = c .before .before .before .before .before .before .before .before .before .before .before .before .before .before .before .fill in
-    omega (arith, f .ensures .few, f .kept .1 .1 .1 .1 .1 .1 .1 .1 .1 .0, q .1 .1 .1 .0 .room-places)
+    let q = c .before .before .before .before .before .before .before .before .before .before .before .before .before .before .before .before .before .before .before .before .before .before .before .before .before .before .before .before .pre in
+    let f = c .before .before .before .before .before .before .before .before .before .before .before .fill in
+    omega (arith, f .ensures .few, f .kept .1 .1 .1 .1 .1 .1 .1 .1 .1 .0, q .1 .1 .1 .1 .0)
 
 slice-aggregate-settle : tie.Need-slice-aggregate-settle
 slice-aggregate-settle c =
-    let q = c .before .before .before .before .before .before .before .before .before .before .before .before .before .before .before .before .before .before .before .before .before .before .before .before .before .before .before .before .before .before .before .before .before .before .before .before .before .pre in
-    let f = c .before .before .before .before .before .before .before .before .before .before .before .before .before .before .before .before .fill in
-    sym (length-take-le (f .result) _ (omega (arith, f .ensures .few, f .kept .1 .1 .1 .1 .1 .1 .1 .1 .1 .0, q .1 .1 .1 .0 .room-places)))
+    let q = c .before .before .before .before .before .before .before .before .before .before .before .before .before .before .before .before .before .before .before .before .before .before .before .before .before .before .before .before .before .pre in
+    let f = c .before .before .before .before .before .before .before .before .before .before .before .before .fill in
+    sym (length-take-le (f .result) _ (omega (arith, f .ensures .few, f .kept .1 .1 .1 .1 .1 .1 .1 .1 .1 .0, q .1 .1 .1 .1 .0)))
 
 settle-requires : tie.Need-settle-requires
 settle-requires c κs =
-    let q = c .before .before .before .before .before .before .before .before .before .before .before .before .before .before .before .before .before .before .before .before .before .before .before .before .before .before .before .before .before .before .before .before .before .before .before .before .before .before .before .pre in
-    let f = c .before .before .before .before .before .before .before .before .before .before .before .before .before .before .before .before .before .before .fill in
+    let q = c .before .before .before .before .before .before .before .before .before .before .before .before .before .before .before .before .before .before .before .before .before .before .before .before .before .before .before .before .before .before .before .pre in
+    let f = c .before .before .before .before .before .before .before .before .before .before .before .before .before .before .fill in
     let n = made-size (q .1 .0 .1) (q .0) in
-    let d = filled-decides (q .0) (q .1 .0) (f .ensures) (omega (arith, f .ensures .few, q .1 .1 .1 .1 .0)) in (
+    let d = filled-decides (q .0) (q .1 .0) (f .ensures) (omega (arith, f .ensures .few, q .1 .1 .1 .1 .1 .0)) in
+    (
       made-sound (q .1 .0 .1) (q .0),
       (
         omega (arith, n, q .1 .1 .0),
         (
           λ H o. c .before .before .before .before .decide .ensures ∙ d H o,
-          (f .ensures .zoned, (f .ensures .writes, (omega (arith, n, q .1 .1 .1 .1 .1 .0), (q .1 .1 .1 .1 .1 .1 .0, omega (arith, n, f .kept .1 .1 .1 .1 .1 .1 .1 .0, q .1 .1 .1 .1 .1 .1 .1))))),
+          (f .ensures .zoned, (f .ensures .writes, (omega (arith, n, q .1 .1 .1 .1 .1 .1 .0), (q .1 .1 .1 .1 .1 .1 .1 .0, omega (arith, n, f .kept .1 .1 .1 .1 .1 .1 .1 .0, q .1 .1 .1 .1 .1 .1 .1 .1))))),
         ),
       ),
     )
@@ -65,12 +66,6 @@ same-length-4 c = search needs
 same-length-5 : tie.Need-same-length-5
 same-length-5 c = search needs
 
-same-length-6 : tie.Need-same-length-6
-same-length-6 c = search needs
-
-same-length-7 : tie.Need-same-length-7
-same-length-7 c = search needs
-
 returns : tie.Need-returns
 returns c = search needs
 
@@ -88,6 +83,4 @@ search-with-spec =
     same-length-3
     same-length-4
     same-length-5
-    same-length-6
-    same-length-7
     returns)

@@ -4,8 +4,8 @@ use mathlib.Core.Path.{_≡_}
 use native.Mathlib.Omega.{arith}
 use borrow.Author.Needs.{needs}
 use lib.ListN.{length, length-set}
-use Rattle.vectors.proofs.repeat.Statement.{statement}
-use Rattle.vectors.proofs.repeat.Tie as tie
+use Rattle.log_vectors.proofs.repeat.Statement.{statement}
+use Rattle.log_vectors.proofs.repeat.Tie as tie
 
 abbrev Inv-loop : tie.InvT-loop
 Inv-loop header line log₀ i₀ log i = length log ≡ length log₀

@@ -2,8 +2,8 @@
 use Prim.Native.Nat.{_-_, _≤_}
 use native.Mathlib.Omega.{arith}
 use borrow.Author.Needs.{needs}
-use Rattle.vectors.proofs.places.Statement.{statement}
-use Rattle.vectors.proofs.places.Tie as tie
+use Rattle.answer_lines.proofs.places.Statement.{statement}
+use Rattle.answer_lines.proofs.places.Tie as tie
 
 abbrev Inv-loop : tie.InvT-loop
 Inv-loop list n i₀ t4 i = i ≤ n

@@ -1,8 +1,8 @@
 use native.Mathlib.Nat.{mod-lt}
 use native.Mathlib.Omega.{arith}
 use borrow.Author.Needs.{needs}
-use Rattle.vectors.proofs.byte_at.Statement.{statement}
-use Rattle.vectors.proofs.byte_at.Tie as tie
+use Rattle.log_vectors.proofs.byte_at.Statement.{statement}
+use Rattle.log_vectors.proofs.byte_at.Tie as tie
 
 shared-slice-read-result : tie.Need-shared-slice-read-result
 shared-slice-read-result c = search needs
