@@ -101,9 +101,8 @@ fn search_with(
     requires { λ C. ⌜ length (now start) ≤ length (now order) ⌝ }
     ensures { λ C r. ⌜ ((allowance : ℕ) → Searched C allowance (λ H. untried (fzf H)) (now (order .exit)) r) ⌝ }
 {
-    zones::lates(start, writer, last, late);
     // The part is written later, and has the room for the low ends until then.
-    let m = zones::by_low(finish, late, writer, part, list);
+    let m = zones::by_low(start, finish, writer, last, late, part, list);
     let f = chunking::part(finish, late, &list[..m], true, forwards);
     let b = chunking::part(finish, late, &list[..m], false, backwards);
     // The list is read no more, and has the room for a chunk's sequence.

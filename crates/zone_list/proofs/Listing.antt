@@ -101,16 +101,14 @@ module _ {t : List ℕ} {register : ℕ} {rows : List ℕ} (g : Listed t registe
   pub writers-long : length (C .writer) ≡ length rows
   writers-long = of .long ∙ sym rows-long
 
-  -- what is taken for the largest starts, and for the writes by low end
-  pub lates-take : {late : ℕ} → late ≡ length rows → Ends (C .start) (C .writer) (C .last) × (late ≡ length (C .start))
-  lates-take r = (sound-ends C made-sound, omega (arith, made-size, r))
-
+  -- what is taken for the writes by low end
   pub low-takes : {late low places : ℕ} → late ≡ length rows → length rows ≤ low → places ≡ length rows →
-      (length (C .finish) ≡ length (C .writer)) × ((late ≡ length (C .finish)) × ((length (C .writer) ≤ low) × (length (C .writer) ≤ places)))
+      Ends (C .start) (C .writer) (C .last)
+      × ((length (C .finish) ≡ length (C .writer)) × ((late ≡ length (C .start)) × ((length (C .writer) ≤ low) × (length (C .writer) ≤ places))))
   low-takes a b c =
       let f = made-sound .ending in
       let w = writers-long in
-      (omega (arith, f, w, made-size), (omega (arith, f, made-size), (omega (arith, w), omega (arith, w))))
+      (sound-ends C made-sound, (omega (arith, f, w, made-size), (omega (arith, made-size), (omega (arith, w), omega (arith, w)))))
 
   module _ (w : ℕ) (q : In w (writesAt (C .writer))) where
     abbrev p : ℕ → List ℕ

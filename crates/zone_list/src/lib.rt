@@ -145,8 +145,7 @@ pub fn fill(
     requires { λ C. ⌜ length (now rows) ≤ largestCount ⌝ }
     ensures { λ C r. ⌜ Filled (now (table .entry)) (now (rows .entry)) C (now (late .exit)) (now (places .exit)) r (now (list .entry)) (now (list .exit)) ⌝ }
 {
-    zones::lates(start, writer, chain, late);
-    let m = zones::by_low(finish, late, writer, low, places);
+    let m = zones::by_low(start, finish, writer, chain, late, low, places);
     if m * NUMBERS <= list.len() {
         put_zones(table, rows, writer, chain, prev, &places[..m], list);
     }

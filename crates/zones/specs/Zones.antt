@@ -5,7 +5,7 @@ use Prim.Native.Nat.{ℕ, _-_, _≤_, _<_, max}
 use mathlib.Core.Path.{_≡_}
 use mathlib.Core.Bool.{Bool, cond}
 use mathlib.Core.List.{List, _∷_}
-use lib.ListN.{length, getD}
+use lib.ListN.{length, getD, take}
 use lib.Dec.{leb, ltb}
 use Rattle.lists.specs.Sorts.{sort}
 use Rattle.methods.specs.declared.Zone.{Zone}
@@ -58,6 +58,13 @@ byLow finish late writer = sort (lowerFirst finish late) (writesAt writer)
 pub record Lows (finish late writer : List ℕ) (i : ℕ) (column : List ℕ) : Type 0 where
   pub long : length writer ≤ length column
   pub lows : (w : ℕ) → w < i → getD writer w 0 ≡ w → getD column w 0 ≡ low (zoneBy finish late w)
+
+-- the n writes at the front of a list, with the largest start of each cluster and the low end of each zone
+pub record Ending (start finish writer last late column : List ℕ) (n : ℕ) (list : List ℕ) : Type 0 where
+  pub few : n ≤ length writer
+  pub written : take n list ≡ writesAt writer
+  pub lates : Lates start writer last (length start) late
+  pub lows : Lows finish late writer (length writer) column
 
 -- a list of positions
 abbrev pub Inside : List ℕ → List ℕ → Type 0

@@ -3,7 +3,7 @@ use methods::Zone;
 ghost use mathlib.Core.Path.{_≡_};
 ghost use Prim.Native.Nat.{_≤_, _<_, max};
 ghost use lib.ListN.{length, getD, take};
-ghost use Rattle.zones.specs.Zones.{lastBy, Ends, Lates, zoneBy, Lows, writesAt, byLow};
+ghost use Rattle.zones.specs.Zones.{lastBy, Ends, Lates, zoneBy, byLow, Ending};
 
 pub fn larger(a: u64, b: u64) -> u64
     ensures { λ r. ⌜ r ≡ max a b ⌝ }
@@ -27,24 +27,6 @@ fn last_start(start: &[u64], last: &[u64], w: usize) -> u64
     larger(own, start[i])
 }
 
-// The largest start of each cluster, at the place of its write.
-pub fn lates(start: &[u64], writer: &[u64], last: &[u64], late: &mut [u64])
-    requires { ⌜ Ends (now start) (now writer) (now last) ⌝ }
-    requires { ⌜ length (now late) ≡ length (now start) ⌝ }
-    ensures { λ _. ⌜ Lates (now (start .entry)) (now (writer .entry)) (now (last .entry)) (length (now (start .entry))) (now (late .exit)) ⌝ }
-{
-    let n = start.len();
-    let mut i: usize = 0;
-    while i < n {
-        let at = i;
-        let v = writer[at];
-        i += 1;
-        if v == at as u64 {
-            late[at] = last_start(start, last, at);
-        }
-    }
-}
-
 // The zone of the write w.
 pub fn zone_of(finish: &[u64], late: &[u64], w: usize) -> Zone
     requires { ⌜ w < length (now finish) ⌝ }
@@ -57,19 +39,22 @@ pub fn zone_of(finish: &[u64], late: &[u64], w: usize) -> Zone
     }
 }
 
-// The writes, at the front of the list, and the low end of each one's zone at its place; their number.
+// The writes, at the front of the list; at the place of each the largest start of its cluster, and the low end of its zone; their number.
 fn low_ends(
+    start: &[u64],
     finish: &[u64],
-    late: &[u64],
     writer: &[u64],
+    last: &[u64],
+    late: &mut [u64],
     low: &mut [u64],
     list: &mut [u64],
 ) -> usize
+    requires { ⌜ Ends (now start) (now writer) (now last) ⌝ }
     requires { ⌜ length (now finish) ≡ length (now writer) ⌝ }
-    requires { ⌜ length (now late) ≡ length (now finish) ⌝ }
+    requires { ⌜ length (now late) ≡ length (now start) ⌝ }
     requires { ⌜ length (now writer) ≤ length (now low) ⌝ }
     requires { ⌜ length (now writer) ≤ length (now list) ⌝ }
-    ensures { λ r. ⌜ (r ≤ length (now (writer .entry))) × (take r (now (list .exit)) ≡ writesAt (now (writer .entry))) × Lows (now (finish .entry)) (now (late .entry)) (now (writer .entry)) (length (now (writer .entry))) (now (low .exit)) ⌝ }
+    ensures { λ r. ⌜ Ending (now (start .entry)) (now (finish .entry)) (now (writer .entry)) (now (last .entry)) (now (late .exit)) (now (low .exit)) r (now (list .exit)) ⌝ }
 {
     let n = writer.len();
     let mut m: usize = 0;
@@ -79,6 +64,7 @@ fn low_ends(
         let v = writer[at];
         i += 1;
         if v == at as u64 {
+            late[at] = last_start(start, last, at);
             let z = zone_of(finish, late, at);
             low[at] = z.low();
             list[m] = v;
@@ -88,21 +74,27 @@ fn low_ends(
     m
 }
 
-// The writes by low end, at the front of the list, where `low` has a place for the low end of each; their number.
+// The writes by low end, at the front of the list, and at the place of each the largest start of its cluster, where `low` has a place for the
+// low end of each; their number.
 pub fn by_low(
+    start: &[u64],
     finish: &[u64],
-    late: &[u64],
     writer: &[u64],
+    last: &[u64],
+    late: &mut [u64],
     low: &mut [u64],
     list: &mut [u64],
 ) -> usize
+    requires { ⌜ Ends (now start) (now writer) (now last) ⌝ }
     requires { ⌜ length (now finish) ≡ length (now writer) ⌝ }
-    requires { ⌜ length (now late) ≡ length (now finish) ⌝ }
+    requires { ⌜ length (now late) ≡ length (now start) ⌝ }
     requires { ⌜ length (now writer) ≤ length (now low) ⌝ }
     requires { ⌜ length (now writer) ≤ length (now list) ⌝ }
-    ensures { λ r. ⌜ (r ≤ length (now (writer .entry))) × (take r (now (list .exit)) ≡ byLow (now (finish .entry)) (now (late .entry)) (now (writer .entry))) ⌝ }
+    ensures { λ r. ⌜ r ≤ length (now (writer .entry)) ⌝ }
+    ensures { λ r. ⌜ take r (now (list .exit)) ≡ byLow (now (finish .entry)) (now (late .exit)) (now (writer .entry)) ⌝ }
+    ensures { λ r. ⌜ Lates (now (start .entry)) (now (writer .entry)) (now (last .entry)) (length (now (start .entry))) (now (late .exit)) ⌝ }
 {
-    let m = low_ends(finish, late, writer, low, list);
+    let m = low_ends(start, finish, writer, last, late, low, list);
     sorting::sort_by(low, &mut list[..m]);
     m
 }

@@ -4,7 +4,7 @@ use native.Mathlib.Omega.{arith}
 use lib.Seq.{length-take-le}
 use Rattle.columns.proofs.Listed.{listed-fit}
 use Rattle.zones.proofs.Zone.{lates-zoned}
-use Rattle.zone_list.proofs.Listing.{made-sound, writers-long, lates-take, low-takes, places-long, put-takes, fill-short, fill-full}
+use Rattle.zone_list.proofs.Listing.{made-sound, writers-long, low-takes, places-long, put-takes, fill-short, fill-full}
 use borrow.Author.Needs.{needs}
 use Rattle.zone_list.proofs.fill.Statement.{statement}
 use Rattle.zone_list.proofs.fill.Tie as tie
@@ -12,49 +12,40 @@ use Rattle.zone_list.proofs.fill.Reads as reads
 use Rattle.zone_list.proofs.fill.Lts as lts
 use Rattle.zone_list.proofs.put_zones.Reads as put-zones-reads
 use Rattle.zones.proofs.by_low.Reads as by-low-reads
-use Rattle.zones.proofs.lates.Reads as lates-reads
-
-lates-requires : tie.Need-lates-requires
-lates-requires c κs =
-    let q = c .before .before .before .before .before .before .before .before .before .before .before .before .pre in
-    let g = q .1 .0 .1 in
-    lates-take g (q .0) (q .1 .1 .0)
 
 by-low-requires : tie.Need-by-low-requires
 by-low-requires c κs =
-    let q = c .before .before .before .before .before .before .before .before .before .before .before .before .before .before .before .before .before .before .pre in
+    let q = c .before .before .before .before .before .before .before .before .before .before .before .before .before .before .pre in
     let g = q .1 .0 .1 in
-    let l = c .before .before .before .before .before .lates in
-    low-takes g (q .0) (l .kept .1 .1 .1 .0 ∙ q .1 .1 .0) (q .1 .1 .1 .1 .0) (q .1 .1 .1 .0)
+    low-takes g (q .0) (q .1 .1 .0) (q .1 .1 .1 .1 .0) (q .1 .1 .1 .0)
 
 mul-if1 : tie.Need-mul-if1
 mul-if1 c = search needs
 
 slice-reshare-prefix-put-zones : tie.Need-slice-reshare-prefix-put-zones
 slice-reshare-prefix-put-zones c =
-    let q = c .before .before .before .before .before .before .before .before .before .before .before .before .before .before .before .before .before .before .before .before .before .before .before .before .pre in
+    let q = c .before .before .before .before .before .before .before .before .before .before .before .before .before .before .before .before .before .before .before .before .before .before .pre in
     let g = q .1 .0 .1 in
-    let w = c .before .before .before .before .before .by-low in
-    omega (arith, w .ensures .0, w .kept .1 .1 .1 .1 .0, q .1 .1 .1 .0, writers-long g (q .0))
+    let w = c .before .before .before .before .before .before .before .by-low in
+    omega (arith, w .ensures .0, w .kept .1 .1 .1 .1 .1 .1 .0, q .1 .1 .1 .0, writers-long g (q .0))
 
 slice-aggregate-put-zones : tie.Need-slice-aggregate-put-zones
 slice-aggregate-put-zones c =
-    let q = c .before .before .before .before .before .before .before .before .before .before .before .before .before .before .before .before .before .before .before .before .before .before .before .before .before .pre in
+    let q = c .before .before .before .before .before .before .before .before .before .before .before .before .before .before .before .before .before .before .before .before .before .before .before .pre in
     let g = q .1 .0 .1 in
-    let w = c .before .before .before .before .before .before .by-low in
-    sym (length-take-le (w .result) _ (omega (arith, w .ensures .0, w .kept .1 .1 .1 .1 .0, q .1 .1 .1 .0, writers-long g (q .0))))
+    let w = c .before .before .before .before .before .before .before .before .by-low in
+    sym (length-take-le (w .result) _ (omega (arith, w .ensures .0, w .kept .1 .1 .1 .1 .1 .1 .0, q .1 .1 .1 .0, writers-long g (q .0))))
 
 put-zones-requires : tie.Need-put-zones-requires
 put-zones-requires c κs =
-    let q = c .before .before .before .before .before .before .before .before .before .before .before .before .before .before .before .before .before .before .before .before .before .before .before .before .before .before .pre in
+    let q = c .before .before .before .before .before .before .before .before .before .before .before .before .before .before .before .before .before .before .before .before .before .before .before .before .pre in
     let g = q .1 .0 .1 in
-    let l = c .before .before .before .before .before .before .before .before .before .before .before .before .before .lates in
-    let w = c .before .before .before .before .before .before .before .by-low in
-    let z = lates-zoned _ (made-sound g (q .0)) _ (l .ensures) in
-    let r = w .kept .1 .1 .1 .1 .0 ∙ q .1 .1 .1 .0 in
-    let e = places-long g (q .0) _ z _ _ (w .ensures .0) r (w .ensures .1) in (
+    let w = c .before .before .before .before .before .before .before .before .before .by-low in
+    let z = lates-zoned _ (made-sound g (q .0)) _ (w .ensures .1 .1) in
+    let r = w .kept .1 .1 .1 .1 .1 .1 .0 ∙ q .1 .1 .1 .0 in
+    let e = places-long g (q .0) _ z _ _ (w .ensures .0) r (w .ensures .1 .0) in (
       listed-fit g,
-      (writers-long g (q .0), (q .0 .chains, (put-takes g (q .0) _ z _ _ (w .ensures .0) r (w .ensures .1), omega (arith, e, c .before .before .if1 .taken)))),
+      (writers-long g (q .0), (q .0 .chains, (put-takes g (q .0) _ z _ _ (w .ensures .0) r (w .ensures .1 .0), omega (arith, e, c .before .before .if1 .taken)))),
     )
 
 same-length : tie.Need-same-length
@@ -71,13 +62,12 @@ same-length-4 c = search needs
 
 returns : tie.Need-returns
 returns c =
-    let q = c .before .before .before .before .before .before .before .before .before .before .before .before .before .before .before .before .before .before .before .before .before .before .before .before .before .before .before .before .before .pre in
+    let q = c .before .before .before .before .before .before .before .before .before .before .before .before .before .before .before .before .before .before .before .before .before .before .before .before .before .before .before .pre in
     let g = q .1 .0 .1 in
-    let l = c .before .before .before .before .before .before .before .before .before .before .before .before .before .before .before .before .lates in
-    let w = c .before .before .before .before .before .before .before .before .before .before .by-low in
-    let z = lates-zoned _ (made-sound g (q .0)) _ (l .ensures) in
-    let r = w .kept .1 .1 .1 .1 .0 ∙ q .1 .1 .1 .0 in
-    fill-full (q .0) (q .1 .0) _ z _ _ (w .ensures .0) r (w .ensures .1) _ _ (omega (arith, c .before .before .before .before .before .if1 .taken)) (c .before .before .put-zones .ensures)
+    let w = c .before .before .before .before .before .before .before .before .before .before .before .before .by-low in
+    let z = lates-zoned _ (made-sound g (q .0)) _ (w .ensures .1 .1) in
+    let r = w .kept .1 .1 .1 .1 .1 .1 .0 ∙ q .1 .1 .1 .0 in
+    fill-full (q .0) (q .1 .0) _ z _ _ (w .ensures .0) r (w .ensures .1 .0) _ _ (omega (arith, c .before .before .before .before .before .if1 .taken)) (c .before .before .put-zones .ensures)
 
 same-length-5 : tie.Need-same-length-5
 same-length-5 c = search needs
@@ -90,19 +80,17 @@ same-length-7 c = search needs
 
 returns-2 : tie.Need-returns-2
 returns-2 c =
-    let q = c .before .before .before .before .before .before .before .before .before .before .before .before .before .before .before .before .before .before .before .before .before .before .before .before .pre in
+    let q = c .before .before .before .before .before .before .before .before .before .before .before .before .before .before .before .before .before .before .before .before .before .before .pre in
     let g = q .1 .0 .1 in
-    let l = c .before .before .before .before .before .before .before .before .before .before .before .lates in
-    let w = c .before .before .before .before .before .by-low in
-    let z = lates-zoned _ (made-sound g (q .0)) _ (l .ensures) in
-    let r = w .kept .1 .1 .1 .1 .0 ∙ q .1 .1 .1 .0 in
-    fill-short (q .0) (q .1 .0) _ z _ _ (w .ensures .0) r (w .ensures .1) _ (omega (arith, c .if1 .left))
+    let w = c .before .before .before .before .before .before .before .by-low in
+    let z = lates-zoned _ (made-sound g (q .0)) _ (w .ensures .1 .1) in
+    let r = w .kept .1 .1 .1 .1 .1 .1 .0 ∙ q .1 .1 .1 .0 in
+    fill-short (q .0) (q .1 .0) _ z _ _ (w .ensures .0) r (w .ensures .1 .0) _ (omega (arith, c .if1 .left))
 
 pub fill-spec : {M : Type 1} → statement M
 fill-spec =
     tie.close
     (tie.spec
-    lates-requires
     by-low-requires
     mul-if1
     slice-reshare-prefix-put-zones

@@ -39,8 +39,7 @@ settle-requires c κs =
     let q = c .before .before .before .before .before .before .before .before .before .before .before .before .before .before .before .before .before .before .before .before .before .before .before .before .before .before .before .before .before .before .before .pre in
     let f = c .before .before .before .before .before .before .before .before .before .before .before .before .before .before .fill in
     let n = made-size (q .1 .0 .1) (q .0) in
-    let d = filled-decides (q .0) (q .1 .0) (f .ensures) (omega (arith, f .ensures .few, q .1 .1 .1 .1 .1 .0)) in
-    (
+    let d = filled-decides (q .0) (q .1 .0) (f .ensures) (omega (arith, f .ensures .few, q .1 .1 .1 .1 .1 .0)) in (
       made-sound (q .1 .0 .1) (q .0),
       (
         omega (arith, n, q .1 .1 .0),
