@@ -13,7 +13,6 @@ use Rattle.lists.specs.Lists.{keep, put}
 use Rattle.lists.specs.Sorts.{insert, sort}
 use Rattle.lists.proofs.Tests.{test, true-not}
 use Rattle.lists.proofs.Images.{map-append, keep-map}
-use Rattle.history.specs.declared.Op.{Op}
 use Rattle.methods.specs.Extremes.{least, greatest}
 use Rattle.positions.specs.Places.{upto}
 use Rattle.positions.specs.Columns.{mine, isRead, readOf}

@@ -1,14 +1,14 @@
 -- A cluster's smallest finish is below another's largest start by rank exactly where it is by the recorded stamps: at an equal stamp starts come
 -- before finishes (document 02, W-203).
 -- Assumes nothing.
-use Prim.Native.Nat.{ℕ, _*_, _-_, _≤_, _<_}
-use mathlib.Core.Path.{_≡_, refl, ap, sym, _∙_}
-use mathlib.Core.Bool.{Bool, true, false}
+use Prim.Native.Nat.{ℕ, _*_, _<_}
+use mathlib.Core.Path.{_≡_, ap, sym, _∙_}
+use mathlib.Core.Bool.{true, false}
 use mathlib.Core.Logic.{_⊎_, inl, inr}
 use mathlib.Core.List.{List, List·Memᴰ as In}
 use native.Mathlib.Omega.{arith}
 use lib.Dec.{ltb}
-use borrow.Author.Tests.{eqb-true, eq-eqb, ltb-true, ltb-false, lt-ltb, le-ltb}
+use borrow.Author.Tests.{eqb-true, eq-eqb, ltb-true, ltb-false, lt-ltb}
 use Rattle.lists.specs.Lists.{keep}
 use Rattle.lists.proofs.Tests.{test}
 use Rattle.lists.proofs.Members.{in-keep, keep-in}
@@ -16,7 +16,6 @@ use Rattle.lists.proofs.Maps.{in-map, map-in}
 use Rattle.history.specs.declared.Op.{Op}
 use Rattle.history.specs.Table.{largestStamp}
 use Rattle.history.specs.Screen.{Screened}
-use Rattle.methods.specs.declared.Zone.{Zone}
 use Rattle.methods.specs.Extremes.{least, greatest}
 use Rattle.methods.specs.Ranks.{byRank, ranked}
 use Rattle.methods.specs.Prepared.{sameValue, byStart, newFinish, short, prepared}

@@ -1,13 +1,12 @@
 -- THE ZONE LIST SHOWS each write of the register once, with the direction and the ends of its zone (document 02, W-206).
 -- Assumes nothing.
 use Prim.Native.Nat.{ℕ, _+_, _*_, _<_}
-use mathlib.Core.Path.{_≡_, refl, ap, sym, _∙_}
+use mathlib.Core.Path.{_≡_, ap, sym, _∙_}
 use mathlib.Core.Logic.{_⊎_, inl, inr, _≢_}
-use mathlib.Core.Bool.{Bool, true}
-use mathlib.Core.List.{List, _∷_, _++_, List·Memᴰ as In}
+use mathlib.Core.Bool.{Bool}
+use mathlib.Core.List.{List, _∷_, List·Memᴰ as In}
 use native.Mathlib.Omega.{arith}
 use lib.ListN.{length, getD, take, drop}
-use Rattle.lists.specs.Pairs.{Pairs}
 use Rattle.lists.specs.Sorts.{sort}
 use Rattle.lists.proofs.Entries.{flat-long, flat-at, flat-part}
 use Rattle.lists.proofs.Images.{getD-in, in-at, pairs-at}
@@ -16,7 +15,6 @@ use Rattle.lists.proofs.Sorts.{in-sort, sort-in, sort-length, by-key}
 use Rattle.history.specs.declared.Op.{Op}
 use Rattle.history.specs.Table.{isWrite}
 use Rattle.history.specs.Screen.{Screened}
-use Rattle.methods.specs.declared.Zone.{Zone}
 use Rattle.methods.specs.Prepared.{prepared}
 use Rattle.methods.specs.Place.{writes, writeCount}
 use Rattle.methods.specs.Zones.{low, forward, zoneOf, lowFirst}

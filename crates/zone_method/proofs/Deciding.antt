@@ -2,16 +2,15 @@
 -- Assumes nothing.
 use Prim.Native.Nat.{ℕ, suc, _+_, _*_, _≤_, _<_}
 use mathlib.Core.Path.{_≡_, refl, ap, sym, _∙_}
-use mathlib.Core.Bool.{Bool, true, false, cond}
-use mathlib.Core.List.{List, [], _∷_, _++_, map, List·Memᴰ as In, List·Memᴰ·head as here, List·Memᴰ·tail as there}
+use mathlib.Core.Bool.{Bool, true, false}
+use mathlib.Core.List.{List, [], _∷_, map, List·Memᴰ as In, List·Memᴰ·head as here, List·Memᴰ·tail as there}
 use native.Mathlib.Omega.{arith}
-use lib.Dec.{ltb, eqb}
 use lib.ListN.{length, getD, drop}
 use borrow.Author.Tests.{le-ltb}
 use Rattle.lists.specs.Lists.{from, upTo}
 use Rattle.lists.specs.Sorts.{sort}
 use Rattle.lists.proofs.Entries.{flat-long, flat-at}
-use Rattle.lists.proofs.Images.{map-twice, getD-in}
+use Rattle.lists.proofs.Images.{map-twice}
 use Rattle.lists.proofs.Sorts.{in-sort}
 use Rattle.history.specs.declared.Op.{Op}
 use Rattle.history.specs.Table.{history}

@@ -3,3 +3,4 @@ pub mod Passing
 pub mod Deciding
 pub mod Laying
 pub mod Found
+pub mod Cases

@@ -8,7 +8,7 @@ use native.Mathlib.Omega.{arith}
 use native.Mathlib.Numerals.{add-one}
 use lib.Dec.{ltb}
 use borrow.Author.Tests.{lt-ltb, le-ltb}
-use Rattle.lists.specs.Lists.{from, upTo}
+use Rattle.lists.specs.Lists.{from}
 use Rattle.methods.specs.declared.Zone.{Zone}
 use Rattle.clusters.specs.Pass.{reached, passes}
 use Rattle.zone_method.specs.Deciding.{zoneAt, decides}
