@@ -58,6 +58,10 @@ module _ {t : List ℕ} {register : ℕ} {rows : List ℕ} (g : Listed t registe
   pub value-at : (j : ℕ) → j < length rows → op H j .value ≡ opAt t (getD rows j 0) .value
   value-at j l = ap (λ (o : Op). o .value) (op-is j l)
 
+  -- its finish is that of the ranked row, doubled and shortened
+  pub finish-at : (j : ℕ) → j < length rows → op H j .finish ≡ newFinish (byStart (ranked h)) (byRow (getD rows j 0))
+  finish-at j l = ap (λ (o : Op). o .finish) (op-is j l) ∙ ap (λ (o : List Op). newFinish o (byRow (getD rows j 0))) (sym ranked-rows)
+
   row-is : (j : ℕ) → j < length rows → op R j ≡ byRow (getD rows j 0)
   row-is j l = getD-map byRow rows j nothing 0 l
 

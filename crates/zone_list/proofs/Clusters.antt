@@ -74,7 +74,7 @@ unfolding least
 least-more key m [] x = omega arith
 least-more key m (y ∷ l) x = rw (least-more key m l x) (omega arith)
 
-greatest-more : {A : Type 0} (key : A → ℕ) (m : ℕ) (l : List A) (x : A) → greatest key m (l ++ (x ∷ [])) ≡ max (greatest key m l) (key x)
+pub greatest-more : {A : Type 0} (key : A → ℕ) (m : ℕ) (l : List A) (x : A) → greatest key m (l ++ (x ∷ [])) ≡ max (greatest key m l) (key x)
 unfolding greatest
 greatest-more key m [] x = omega arith
 greatest-more key m (y ∷ l) x = rw (greatest-more key m l x) (omega arith)
@@ -84,7 +84,7 @@ unfolding least
 least-end key m [] x = omega arith
 least-end key m (y ∷ l) x = ap (min (key y)) (least-end key m l x)
 
-pub greatest-end : {A : Type 0} (key : A → ℕ) (m : ℕ) (l : List A) (x : A) → greatest key m (l ++ (x ∷ [])) ≡ greatest key (max m (key x)) l
+greatest-end : {A : Type 0} (key : A → ℕ) (m : ℕ) (l : List A) (x : A) → greatest key m (l ++ (x ∷ [])) ≡ greatest key (max m (key x)) l
 unfolding greatest
 greatest-end key m [] x = omega arith
 greatest-end key m (y ∷ l) x = ap (max (key y)) (greatest-end key m l x)

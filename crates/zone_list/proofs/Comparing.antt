@@ -45,7 +45,7 @@ module _ {size : ℕ} {h : List Op} (s : Screened size h) (a : RowsRise h) where
   unfolding ranked
   in-ranked {r} m = in-map (byRank h) h (from-sorted r m)
 
-  ranked-in : {o : Op} → In o h → In (byRank h o) R
+  pub ranked-in : {o : Op} → In o h → In (byRank h o) R
   unfolding ranked
   ranked-in {o} m = into-sorted (byRank h o) (map-in (byRank h) m)
 

@@ -3,5 +3,6 @@ pub mod Comparing
 pub mod Clusters
 pub mod Walking
 pub mod Listing
+pub mod Timing
 pub mod Showing
 pub mod Calling

@@ -1,6 +1,6 @@
 -- The recorded stamps of each cluster in columns, and the zone list by them.
 -- Assumes nothing.
-use Prim.Native.Nat.{ℕ, _*_, _≤_, _<_}
+use Prim.Native.Nat.{ℕ, _*_, _%_, _≤_, _<_}
 use mathlib.Core.Path.{_≡_}
 use mathlib.Core.List.{List, _∷_}
 use lib.ListN.{length, getD, take}
@@ -27,6 +27,12 @@ stampsOver t rows w l =
 -- those of w's cluster: of the write and of its reads
 abbrev pub stampsAt : List ℕ → List ℕ → List ℕ → ℕ → Zone
 stampsAt t rows writer w = stampsOver t rows w (upto (readOf writer w) (length writer))
+
+-- recorded starts rise by position, and no read finishes below a write whose finish in the columns is even
+pub record Timely (t rows finish writer : List ℕ) : Type 0 where
+  pub sized : length finish ≡ length rows
+  pub rising : (a b : ℕ) → a ≤ b → b < length rows → rowOp t rows a .start ≤ rowOp t rows b .start
+  pub whole : (w j : ℕ) → j < length rows → getD writer j 0 ≡ w → getD writer w 0 ≡ w → getD finish w 0 % 2 ≡ 0 → rowOp t rows w .finish ≤ rowOp t rows j .finish
 
 -- positions of writes
 abbrev pub Writes : List ℕ → List ℕ → Type 0

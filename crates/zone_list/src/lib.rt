@@ -5,7 +5,7 @@ use history::Row;
 use methods::Zone;
 ghost use mathlib.Core.Path.{_≡_};
 ghost use mathlib.Core.List.{List, [], _∷_, flatMap};
-ghost use Prim.Native.Nat.{ℕ, _+_, _*_, _≤_, _<_, min};
+ghost use Prim.Native.Nat.{ℕ, _+_, _*_, _-_, _≤_, _<_, min, max};
 ghost use lib.ListN.{length, getD};
 ghost use lib.Seq.{sets};
 ghost use Rattle.history.specs.Table.{largestCount, rowCount, history, Alike};
@@ -18,7 +18,7 @@ ghost use Rattle.columns.specs.Rows.{Listed};
 ghost use Rattle.columns.specs.Made.{Room, Made};
 ghost use Rattle.zone_list.specs.ZoneList.{directed, outcome, zoneCall};
 ghost use Rattle.zone_list.specs.Shown.{Shown};
-ghost use Rattle.zone_list.specs.Stamps.{stampsAt, Writes, numbersAt, Laid, OfRows, Filled};
+ghost use Rattle.zone_list.specs.Stamps.{stampsAt, Timely, Writes, numbersAt, Laid, OfRows, Filled};
 
 // The numbers of a write.
 pub const NUMBERS: usize = 4;
@@ -39,10 +39,48 @@ fn smaller(a: u64, b: u64) -> u64
     if a <= b { a } else { b }
 }
 
-// The smallest finish and the largest start in the cluster of the write w as they are recorded, along the chain of its reads.
+// The position of the largest start in the cluster of the write w: that of its last read, or its own.
+fn latest(chain: &[u64], w: usize) -> usize
+    requires { ⌜ w < length (now chain) ⌝ }
+    ensures { λ r. ⌜ r ≡ max w (getD (now (chain .entry)) w 0 - 1) ⌝ }
+{
+    let k = chain[w] as usize;
+    if k > w { k - 1 } else { w }
+}
+
+// The smallest of the finish of the write w and of its reads as they are recorded, along their chain.
+fn first_finish(
+    table: &[u64],
+    rows: &[u64],
+    writer: &[u64],
+    chain: &[u64],
+    prev: &[u64],
+    w: usize,
+) -> u64
+    requires { ⌜ Fit (now table) (now rows) ⌝ }
+    requires { ⌜ length (now writer) ≡ length (now rows) ⌝ }
+    requires { ⌜ Linked (now writer) (now chain) (now prev) ⌝ }
+    requires { ⌜ w < length (now rows) ⌝ }
+    requires { ⌜ getD (now writer) w 0 ≡ w ⌝ }
+    ensures { λ r. ⌜ r ≡ stampsAt (now (table .entry)) (now (rows .entry)) (now (writer .entry)) w .finish ⌝ }
+{
+    let mut finish = Op::at(table, rows[w] as usize).finish;
+    let mut k = chain[w] as usize;
+    while k > 0 {
+        let i = k - 1;
+        let read = Op::at(table, rows[i] as usize);
+        k = prev[i] as usize;
+        finish = smaller(finish, read.finish);
+    }
+    finish
+}
+
+// The smallest finish and the largest start in the cluster of the write w as they are recorded. An even finish was not shortened: no read
+// finishes below it.
 fn stamps(
     table: &[u64],
     rows: &[u64],
+    finish: &[u64],
     writer: &[u64],
     chain: &[u64],
     prev: &[u64],
@@ -51,23 +89,21 @@ fn stamps(
     requires { ⌜ Fit (now table) (now rows) ⌝ }
     requires { ⌜ length (now writer) ≡ length (now rows) ⌝ }
     requires { ⌜ Linked (now writer) (now chain) (now prev) ⌝ }
+    requires { ⌜ Timely (now table) (now rows) (now finish) (now writer) ⌝ }
     requires { ⌜ w < length (now rows) ⌝ }
     requires { ⌜ getD (now writer) w 0 ≡ w ⌝ }
     ensures { λ r. ⌜ r ≡ stampsAt (now (table .entry)) (now (rows .entry)) (now (writer .entry)) w ⌝ }
 {
-    let own = Op::at(table, rows[w] as usize);
-    let mut finish = own.finish;
-    let mut start = own.start;
-    let mut k = chain[w] as usize;
-    while k > 0 {
-        let i = k - 1;
-        let read = Op::at(table, rows[i] as usize);
-        k = prev[i] as usize;
-        finish = smaller(finish, read.finish);
-        start = zones::larger(start, read.start);
+    let last = latest(chain, w);
+    let start = Op::at(table, rows[last] as usize).start;
+    if finish[w] % 2 == 0 {
+        return Zone {
+            finish: Op::at(table, rows[w] as usize).finish,
+            start: start,
+        };
     }
     Zone {
-        finish: finish,
+        finish: first_finish(table, rows, writer, chain, prev, w),
         start: start,
     }
 }
@@ -99,6 +135,7 @@ fn put_zone(row: u64, z: Zone, list: &mut [u64], at: usize)
 fn put_zones(
     table: &[u64],
     rows: &[u64],
+    finish: &[u64],
     writer: &[u64],
     chain: &[u64],
     prev: &[u64],
@@ -108,6 +145,7 @@ fn put_zones(
     requires { ⌜ Fit (now table) (now rows) ⌝ }
     requires { ⌜ length (now writer) ≡ length (now rows) ⌝ }
     requires { ⌜ Linked (now writer) (now chain) (now prev) ⌝ }
+    requires { ⌜ Timely (now table) (now rows) (now finish) (now writer) ⌝ }
     requires { ⌜ Writes (now writer) (now places) ⌝ }
     requires { ⌜ length (now places) * 4 ≤ length (now list) ⌝ }
     ensures { λ _. ⌜ now (list .exit) ≡ written (flatMap (numbersAt (now (table .entry)) (now (rows .entry)) (now (writer .entry))) (now (places .entry))) (now (list .entry)) ⌝ }
@@ -115,7 +153,7 @@ fn put_zones(
     let mut i: usize = 0;
     while i < places.len() {
         let w = places[i] as usize;
-        let z = stamps(table, rows, writer, chain, prev, w);
+        let z = stamps(table, rows, finish, writer, chain, prev, w);
         put_zone(rows[w], z, list, i * NUMBERS);
         i += 1;
     }
@@ -147,7 +185,7 @@ pub fn fill(
 {
     let m = zones::by_low(start, finish, writer, chain, late, low, places);
     if m * NUMBERS <= list.len() {
-        put_zones(table, rows, writer, chain, prev, &places[..m], list);
+        put_zones(table, rows, finish, writer, chain, prev, &places[..m], list);
     }
     m
 }

@@ -4,6 +4,7 @@ use native.Mathlib.Omega.{arith}
 use lib.Seq.{length-take-le}
 use Rattle.columns.proofs.Listed.{listed-fit}
 use Rattle.zones.proofs.Zone.{lates-zoned}
+use Rattle.zone_list.proofs.Timing.{timely}
 use Rattle.zone_list.proofs.Listing.{made-sound, writers-long, low-takes, places-long, put-takes, fill-short, fill-full}
 use borrow.Author.Needs.{needs}
 use Rattle.zone_list.proofs.fill.Statement.{statement}
@@ -45,7 +46,7 @@ put-zones-requires c κs =
     let r = w .kept .1 .1 .1 .1 .1 .1 .0 ∙ q .1 .1 .1 .0 in
     let e = places-long g (q .0) _ z _ _ (w .ensures .0) r (w .ensures .1 .0) in (
       listed-fit g,
-      (writers-long g (q .0), (q .0 .chains, (put-takes g (q .0) _ z _ _ (w .ensures .0) r (w .ensures .1 .0), omega (arith, e, c .before .before .if1 .taken)))),
+      (writers-long g (q .0), (q .0 .chains, (timely g (q .0), (put-takes g (q .0) _ z _ _ (w .ensures .0) r (w .ensures .1 .0), omega (arith, e, c .before .before .if1 .taken))))),
     )
 
 same-length : tie.Need-same-length

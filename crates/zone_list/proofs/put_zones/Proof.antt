@@ -19,10 +19,10 @@ use Rattle.zone_list.proofs.put_zone.Reads as put-zone-reads
 use Rattle.zone_list.proofs.stamps.Reads as stamps-reads
 
 abbrev Inv-loop : tie.InvT-loop
-Inv-loop table rows writer chain prev places list₀ i₀ list i = Entered (numbersAt table rows writer) places list₀ i list
+Inv-loop table rows finish writer chain prev places list₀ i₀ list i = Entered (numbersAt table rows writer) places list₀ i list
 
 abbrev μ-loop : tie.MeasureT-loop
-μ-loop table rows writer chain prev places list₀ i₀ list i = length places - i
+μ-loop table rows finish writer chain prev places list₀ i₀ list i = length places - i
 
 loop-holds : tie.Need-loop-holds Inv-loop μ-loop
 loop-holds c = entered-none _ _ _
@@ -35,21 +35,21 @@ shared-slice-read-w c = omega arith
 
 stamps-requires : tie.Need-stamps-requires Inv-loop μ-loop
 stamps-requires c κs =
-    let q = c .before .before .before .before .before .before .before .before .before .before .pre in
-    let w = c .before .before .before .before .before .before .before .before .before .before .pre .1 .1 .1 .0 (c .before .before .loop .i) (omega arith) in
-    (q .0, (q .1 .0, (q .1 .1 .0, (omega (arith, w .0, q .1 .0), w .1))))
+    let q = c .before .before .before .before .before .before .before .before .before .before .before .pre in
+    let w = c .before .before .before .before .before .before .before .before .before .before .before .pre .1 .1 .1 .1 .0 (c .before .before .loop .i) (omega arith) in
+    (q .0, (q .1 .0, (q .1 .1 .0, (q .1 .1 .1 .0, (omega (arith, w .0, q .1 .0), w .1)))))
 
 mul-put-zone : tie.Need-mul-put-zone Inv-loop μ-loop
-mul-put-zone c = let w = c .before .before .before .before .before .before .before .before .before .before .before .pre .1 .1 .1 .0 (c .before .before .before .loop .i) (omega arith) in omega (arith, w .0)
+mul-put-zone c = let w = c .before .before .before .before .before .before .before .before .before .before .before .before .pre .1 .1 .1 .1 .0 (c .before .before .before .loop .i) (omega arith) in omega (arith, w .0)
 
 shared-slice-read-put-zone : tie.Need-shared-slice-read-put-zone Inv-loop μ-loop
-shared-slice-read-put-zone c = let w = c .before .before .before .before .before .before .before .before .before .before .before .before .pre .1 .1 .1 .0 (c .before .before .before .before .loop .i) (omega arith) in omega (arith, w .0, c .before .before .before .before .before .before .before .before .before .before .before .before .pre .1 .0)
+shared-slice-read-put-zone c = let w = c .before .before .before .before .before .before .before .before .before .before .before .before .before .pre .1 .1 .1 .1 .0 (c .before .before .before .before .loop .i) (omega arith) in omega (arith, w .0, c .before .before .before .before .before .before .before .before .before .before .before .before .before .pre .1 .0)
 
 mul-put-zone-2 : tie.Need-mul-put-zone-2 Inv-loop μ-loop
 mul-put-zone-2 c = omega arith
 
 put-zone-requires : tie.Need-put-zone-requires Inv-loop μ-loop
-put-zone-requires c κs = entered-room _ _ _ 4 (four-at (c .before .before .before .before .before .before .before .before .before .before .before .before .before .args .table .now) (c .before .before .before .before .before .before .before .before .before .before .before .before .before .args .rows .now) (c .before .before .before .before .before .before .before .before .before .before .before .before .before .args .writer .now)) _ _ (c .before .before .before .before .before .loop .inv) (c .before .before .before .before .before .before .before .before .before .before .before .before .before .pre .1 .1 .1 .1) (omega arith)
+put-zone-requires c κs = entered-room _ _ _ 4 (four-at (c .before .before .before .before .before .before .before .before .before .before .before .before .before .before .args .table .now) (c .before .before .before .before .before .before .before .before .before .before .before .before .before .before .args .rows .now) (c .before .before .before .before .before .before .before .before .before .before .before .before .before .before .args .writer .now)) _ _ (c .before .before .before .before .before .loop .inv) (c .before .before .before .before .before .before .before .before .before .before .before .before .before .before .pre .1 .1 .1 .1 .1) (omega arith)
 
 add-i : tie.Need-add-i Inv-loop μ-loop
 add-i c = omega arith
@@ -60,8 +60,8 @@ loop-less c = omega arith
 loop-again : tie.Need-loop-again Inv-loop μ-loop
 loop-again c =
     let l = c .before .before .before .before .before .before .before .before .loop in
-    let q = c .before .before .before .before .before .before .before .before .before .before .before .before .before .before .before .before .args in
-    entered-more _ _ _ 4 (four-at (c .before .before .before .before .before .before .before .before .before .before .before .before .before .before .before .before .args .table .now) (c .before .before .before .before .before .before .before .before .before .before .before .before .before .before .before .before .args .rows .now) (c .before .before .before .before .before .before .before .before .before .before .before .before .before .before .before .before .args .writer .now)) (l .i) _ _ _ (omega arith) refl
+    let q = c .before .before .before .before .before .before .before .before .before .before .before .before .before .before .before .before .before .args in
+    entered-more _ _ _ 4 (four-at (c .before .before .before .before .before .before .before .before .before .before .before .before .before .before .before .before .before .args .table .now) (c .before .before .before .before .before .before .before .before .before .before .before .before .before .before .before .before .before .args .rows .now) (c .before .before .before .before .before .before .before .before .before .before .before .before .before .before .before .before .before .args .writer .now)) (l .i) _ _ _ (omega arith) refl
     (c .before .before .put-zone .ensures ∙ ap (λ (z : Zone). sets (l .list) (l .i * 4) (getD (q .rows .now) (getD (q .places .now) (l .i) 0) 0 ∷ directed (forward z) z)) (c .before .before .before .before .before .stamps .ensures))
     (l .inv)
 
@@ -69,7 +69,7 @@ same-length : tie.Need-same-length Inv-loop μ-loop
 same-length c = entered-long _ _ _ _ _ (c .before .loop .inv)
 
 returns : tie.Need-returns Inv-loop μ-loop
-returns c = entered-end _ _ _ 4 (four-at (c .before .before .before .before .before .before .before .before .before .args .table .now) (c .before .before .before .before .before .before .before .before .before .args .rows .now) (c .before .before .before .before .before .before .before .before .before .args .writer .now)) _ _ (omega arith) (c .before .before .before .before .before .before .before .before .before .pre .1 .1 .1 .1) (c .before .loop .inv)
+returns c = entered-end _ _ _ 4 (four-at (c .before .before .before .before .before .before .before .before .before .before .args .table .now) (c .before .before .before .before .before .before .before .before .before .before .args .rows .now) (c .before .before .before .before .before .before .before .before .before .before .args .writer .now)) _ _ (omega arith) (c .before .before .before .before .before .before .before .before .before .before .pre .1 .1 .1 .1 .1) (c .before .loop .inv)
 
 pub put-zones-spec : {M : Type 1} → statement M
 put-zones-spec =
