@@ -7,7 +7,7 @@ use mathlib.Core.Bool.{Bool, true, false}
 use mathlib.Core.List.{List, [], _∷_, _++_, append-nil}
 use native.Mathlib.Omega.{arith}
 use lib.Dec.{leb}
-use lib.ListN.{length, getD, take, drop, length-map}
+use lib.ListN.{length, getD, take, drop}
 use lib.Seq.{take-at, length-take-le}
 use borrow.Author.Tests.{leb-true, leb-false, le-leb, lt-leb}
 use Rattle.lists.specs.Lists.{from, upTo, put, keep}
@@ -15,19 +15,12 @@ use Rattle.lists.specs.Sorts.{sort}
 use Rattle.lists.proofs.Tests.{test}
 use Rattle.lists.proofs.Sorts.{sort-length}
 use Rattle.lists.proofs.Images.{keep-append, sort-ext}
-use Rattle.history.specs.Table.{rowCount, opAt, bears, rowsOf, history}
-use Rattle.history.specs.Screen.{Screened}
-use Rattle.history.proofs.Rows.{history-count}
-use Rattle.methods.specs.Prepared.{startsFirst, byStart}
-use Rattle.methods.specs.Mark.{rowNumbers, written}
 use Rattle.sorting.specs.Keys.{rises}
 use Rattle.positions.specs.Places.{pickList, upto}
 use Rattle.positions.specs.Columns.{Cols, size, isOwn, byFinish}
 use Rattle.positions.proofs.Places.{in-upto}
 use Rattle.columns.specs.Gathered.{Gathered}
-use Rattle.columns.specs.Rows.{Listed}
 use Rattle.columns.specs.Falls.{noSooner, fallingOf, Turned}
-use Rattle.columns.proofs.Listed.{sorted-is, sorted-numbers}
 
 -- the numbers from i on, and one more
 from-last : (i n : ℕ) → from i (suc n) ≡ from i n ++ ((i + n) ∷ [])
@@ -63,46 +56,6 @@ module _ {P : ℕ → Bool} {Key : ℕ → ℕ → Type 0} {n m : ℕ} {list₀ 
   gathered-sort le u new q =
       q ∙ ap (sort (rises keys)) (g .front)
       ∙ sort-ext (rises keys) le (upto P n) (λ x y a b. u x y (g .keyed x (in-upto P n a .0)) (g .keyed y (in-upto P n b .0)))
-
--- The rows of a register.
-module _ (t : List ℕ) (register : ℕ) where
-  rows-upto : rowsOf t register ≡ upto (bears t register) (rowCount t)
-  unfolding rowsOf
-  rows-upto = keep-below (bears t register) (rowCount t)
-
-  pub rows-sorted : {m : ℕ} {list₀ keys list : List ℕ} → rowCount t ≤ length list₀
-      → Gathered (bears t register) (λ x k. k ≡ opAt t x .start) (rowCount t) list₀ m keys list
-      → (new : List ℕ) → new ≡ sort (rises keys) (take m list)
-      → (m ≡ length (history t register)) × (new ++ drop m list ≡ written (rowNumbers (byStart (history t register))) list₀)
-  rows-sorted {m} {list₀} {keys} {list} room g new q = (count, ap (λ (l : List ℕ). l ++ drop m list) sorted ∙ ap (λ (l : List ℕ). rows ++ l) (g .behind ∙ ap (λ (k : ℕ). drop k list₀) long))
-    where
-      rows : List ℕ
-      rows = rowNumbers (byStart (history t register))
-
-      le : ℕ → ℕ → Bool
-      le x y = startsFirst (opAt t x) (opAt t y)
-
-      count : m ≡ length (history t register)
-      count = gathered-count room g ∙ ap length (sym rows-upto) ∙ sym (history-count t register)
-
-      sorted : new ≡ rows
-      sorted = gathered-sort room g le (λ x y a b. rw (a, b)) new q ∙ ap (sort le) (sym rows-upto) ∙ sym (sorted-is t register) ∙ sym (sorted-numbers t register)
-
-      long : m ≡ length rows
-      long = gathered-count room g ∙ ap length (sym rows-upto) ∙ sym (sort-length le (rowsOf t register)) ∙ ap length (sym (sorted-is t register) ∙ sym (sorted-numbers t register))
-
--- what the call leaves at the front is the rows of the register by rising start
-pub rows-listed : (t : List ℕ) (register m : ℕ) (rows₀ rows : List ℕ) → Screened (length t) (history t register)
-    → (m ≡ length (history t register)) × (rows ≡ written (rowNumbers (byStart (history t register))) rows₀) → Listed t register (take m rows)
-unfolding byStart
-rows-listed t register m rows₀ rows s e =
-    record { screened = s; listed = ap (take m) (e .1) ∙ take-at numbers (drop (length numbers) rows₀) m (long ∙ sym (e .0)) }
-  where
-    numbers : List ℕ
-    numbers = rowNumbers (sort startsFirst (history t register))
-
-    long : length numbers ≡ length (history t register)
-    long = length-map (sort startsFirst (history t register)) (λ x. x .row) ∙ sort-length startsFirst (history t register)
 
 -- The writes of two columns.
 module _ (finish writer : List ℕ) where

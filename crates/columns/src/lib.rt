@@ -19,62 +19,11 @@ ghost use Rattle.columns.specs.Falls.{fallingOf, Turned};
 
 const LARGEST: u64 = 18446744073709551615;
 
-// The rows of the register in table sequence, at the front of the slice, and the start of each row of the table; their number.
-fn gather(table: &[u64], register: u64, keys: &mut [u64], rows: &mut [u64]) -> usize
-    requires { ⌜ rowCount (now table) ≤ length (now keys) ⌝ }
-    requires { ⌜ rowCount (now table) ≤ length (now rows) ⌝ }
-    ensures { λ r. ⌜ Gathered (bears (now (table .entry)) register) (λ x k. k ≡ opAt (now (table .entry)) x .start) (rowCount (now (table .entry))) (now (rows .entry)) r (now (keys .exit)) (now (rows .exit)) ⌝ }
-{
-    let n = table.len() / Row::COLUMNS;
-    let mut m: usize = 0;
-    let mut i: usize = 0;
-    while i < n {
-        let row = i;
-        keys[row] = Op::at(table, row).start;
-        i += 1;
-        if history::bears(table, register, row) {
-            rows[m] = row as u64;
-            m += 1;
-        }
-    }
-    m
-}
-
 // So many rows are few: a short array does for their keys, which is sooner cleared than a long one.
 const FEW: usize = 32;
 
 // Up to so many, an array of a middle size does.
 const SOME: usize = 256;
-
-// The rows of the register by rising start, at the front of the slice, with a place for the start of each row of the table; their number.
-fn rows_with(table: &[u64], register: u64, keys: &mut [u64], rows: &mut [u64]) -> usize
-    requires { ⌜ rowCount (now table) ≤ largestCount ⌝ }
-    requires { ⌜ rowCount (now table) ≤ length (now keys) ⌝ }
-    requires { ⌜ rowCount (now table) ≤ length (now rows) ⌝ }
-    ensures { λ r. ⌜ (r ≡ length (history (now (table .entry)) register)) × (now (rows .exit) ≡ written (rowNumbers (byStart (history (now (table .entry)) register))) (now (rows .entry))) ⌝ }
-{
-    let m = gather(table, register, keys, rows);
-    sorting::sort_by(keys, &mut rows[..m]);
-    m
-}
-
-// The rows of the register by rising start, at the front of the slice; their number.
-pub fn rows_by_start(table: &[u64], register: u64, rows: &mut [u64]) -> usize
-    requires { ⌜ rowCount (now table) ≤ largestCount ⌝ }
-    requires { ⌜ rowCount (now table) ≤ length (now rows) ⌝ }
-    ensures { λ r. ⌜ (r ≡ length (history (now (table .entry)) register)) × (now (rows .exit) ≡ written (rowNumbers (byStart (history (now (table .entry)) register))) (now (rows .entry))) ⌝ }
-{
-    if table.len() / Row::COLUMNS <= FEW {
-        let mut few = [0u64; FEW];
-        return rows_with(table, register, &mut few, rows);
-    }
-    if table.len() / Row::COLUMNS <= SOME {
-        let mut some = [0u64; SOME];
-        return rows_with(table, register, &mut some, rows);
-    }
-    let mut keys = [0u64; Row::LARGEST_COUNT];
-    rows_with(table, register, &mut keys, rows)
-}
 
 // The start of each of the rows, at the place of its row.
 fn starts_of(table: &[u64], rows: &[u64], keys: &mut [u64])
@@ -98,6 +47,26 @@ pub fn sort_rows(table: &[u64], keys: &mut [u64], rows: &mut [u64])
 {
     starts_of(table, rows, keys);
     sorting::sort_by(keys, rows);
+}
+
+// Puts given rows by rising start, those with one start in their sequence.
+pub fn put_by_start(table: &[u64], rows: &mut [u64])
+    requires { ⌜ Within (now table) (now rows) ⌝ }
+    requires { ⌜ rowCount (now table) ≤ largestCount ⌝ }
+    ensures { λ _. ⌜ now (rows .exit) ≡ rowNumbers (byStart (map (opAt (now (table .entry))) (now (rows .entry)))) ⌝ }
+{
+    if table.len() / Row::COLUMNS <= FEW {
+        let mut few = [0u64; FEW];
+        sort_rows(table, &mut few, rows);
+        return;
+    }
+    if table.len() / Row::COLUMNS <= SOME {
+        let mut some = [0u64; SOME];
+        sort_rows(table, &mut some, rows);
+        return;
+    }
+    let mut keys = [0u64; Row::LARGEST_COUNT];
+    sort_rows(table, &mut keys, rows);
 }
 
 // A write's finish after one of its reads: one below the read's, where that is lower.

@@ -56,6 +56,15 @@ module _ (size : ℕ) (h : List Op) (question : ℕ) (list : List ℕ) where
       let xs = tests size h (noQuestion question) in
       no-fault-answer xs (passed (length h)) (code-no-fault xs (tests-coded size h (noQuestion question)) (passed (length h)) e)
 
+  -- where they refuse nothing, the answer of tests 1 to 10 has it too
+  pub met-counted : (a : Answer) → a ≡ met → a .code ≡ 0 → a .rows ≡ length h
+  unfolding markTests
+  met-counted a e z =
+      let xs = tests size h (noQuestion question) in
+      let cx = coded-append xs (ten ∷ []) (tests-coded size h (noQuestion question)) (omega arith) in
+      let done = passed (length h) in
+      ap (λ x. x .rows) (e ∙ no-fault-answer (xs ++ ten ∷ []) done (code-no-fault (xs ++ ten ∷ []) cx done (sym (ap (λ x. x .code) e) ∙ z)))
+
   -- b is the condition of test 3, a the answer of tests 1 to 9, and the list has so many places
   module _ (b : Bool) (unasked : b ≡ noQuestion question) (a : Answer) (e : a ≡ examined size h b) (room : ℕ) (long : length list ≡ room) where
     -- it is the defined one, with its code and its count of rows

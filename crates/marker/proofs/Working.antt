@@ -8,7 +8,8 @@ use lib.ListN.{length, take, length-map}
 use Rattle.lists.proofs.Pairs.{pairs-map}
 use Rattle.lists.proofs.Cover.{no-longer-by}
 use Rattle.history.specs.declared.Op.{Op}
-use Rattle.history.specs.Table.{rowCount, history}
+use Rattle.history.specs.Table.{largestCount, history}
+use Rattle.history.proofs.Rows.{rows-few}
 use Rattle.methods.specs.Prepared.{byStart, prepared}
 use Rattle.methods.specs.Zones.{order}
 use Rattle.methods.specs.Mark.{Outcome, kOf, method, rowNumbers, written, judged}
@@ -22,7 +23,7 @@ use Rattle.placing.specs.Searched.{between, Searched, is-stale, is-fresh, is-sp
 use Rattle.columns.specs.Rows.{Listed}
 use Rattle.columns.specs.Made.{Made}
 use Rattle.columns.proofs.Made.{prepared-rows}
-use Rattle.columns.proofs.Lent.{rows-long, front, listed}
+use Rattle.columns.proofs.Lent.{rows-long}
 use Rattle.joining.specs.Items.{Known}
 use Rattle.searches.specs.Replies.{Fits, Replied}
 use Rattle.searches.proofs.Answering.{between-long}
@@ -86,12 +87,7 @@ module _ {t : List ℕ} {register : ℕ} {rows : List ℕ} (g : Listed t registe
       f C (prepared h) (method question) (m .columns register g) (prepared-rows g) k
       ∙ ap (λ (n : ℕ). judged n allowance list (method question (prepared h))) (rows-long g)
 
--- What is lent of the register's rows, where it passes tests 1 to 10 and each row of the table has a place.
-module _ (t : List ℕ) (register question : ℕ) (list : List ℕ) (p : Passes (length t) (history t register) question list) (n : ℕ) (rows₀ rows : List ℕ)
-    (room : rowCount t ≤ length rows₀) (long : length rows ≡ length rows₀)
-    (e : (n ≡ length (history t register)) × (rows ≡ written (rowNumbers (byStart (history t register))) rows₀)) where
-  -- what the marking of its rows takes
-  pub rows-take : ((r : ℕ) × Listed t r (take n rows)) × ((length (take n rows) ≤ length list) × Asked question)
-  rows-take =
-      let s = p .screened in
-      ((register, listed t register s n rows₀ rows room long e), (omega (arith, front t register s n rows₀ rows room long e, e .0, p .room), p .asked))
+-- What the marking of a register's rows takes, where it passes tests 1 to 10.
+module _ (t : List ℕ) (register question : ℕ) (list : List ℕ) (p : Passes (length t) (history t register) question list) (rows : List ℕ) (g : Listed t register rows) where
+  pub rows-take : ((r : ℕ) × Listed t r rows) × ((length rows ≤ largestCount) × ((length rows ≤ length list) × Asked question))
+  rows-take = ((register, g), (omega (arith, rows-long g, rows-few t register, p .screened .few), (omega (arith, rows-long g, p .room), p .asked)))

@@ -6,8 +6,9 @@ ghost use mathlib.Core.Path.{_≡_};
 ghost use mathlib.Core.List.{List};
 ghost use Prim.Native.Nat.{ℕ, _≤_};
 ghost use lib.ListN.{length};
-ghost use Rattle.history.specs.Table.{history, Alike, largestCount, rowCount};
+ghost use Rattle.history.specs.Table.{rowsOf, history, Alike, largestCount, rowCount};
 ghost use Rattle.history.specs.Answer.{firstMet, passed};
+ghost use Rattle.screening.specs.Ready.{Gathered};
 ghost use Rattle.methods.specs.Mark.{noQuestion, method, markTests, mark};
 ghost use Rattle.meaning.specs.Marked.{Passes};
 ghost use Rattle.meaning.specs.Demand.{Demand};
@@ -44,11 +45,14 @@ pub fn unasked(question: u64) -> bool
     question != FZF
 }
 
-// Tests 1 to 10, with a list of so many places.
-fn refusal(table: &[u64], register: u64, question: u64, room: usize) -> Answer
+// Tests 1 to 10, with a list of so many places, and a place for each row of a table that passes the first two; where none refuses, the
+// register's rows stand at the front of these then.
+fn refusal(table: &[u64], register: u64, question: u64, room: usize, rows: &mut [u64]) -> Answer
+    requires { ⌜ (rowCount (now table) ≤ largestCount → rowCount (now table) ≤ length (now rows)) ⌝ }
     ensures { λ r. ⌜ ((list : List ℕ) → length list ≡ room → r ≡ firstMet (markTests (length (now (table .entry))) (history (now (table .entry)) register) question list) (passed (length (history (now (table .entry)) register)))) ⌝ }
+    ensures { λ r. ⌜ (r .code ≡ 0 → Gathered (now (table .entry)) register (now (rows .exit))) ⌝ }
 {
-    let nine = screening::examine(table, register, unasked(question));
+    let nine = screening::examine_into(table, register, unasked(question), rows);
     if nine.code != 0 {
         return nine;
     }
@@ -244,8 +248,8 @@ pub fn mark_rows(
     mark_many(table, rows, question, allowance, list)
 }
 
-// The mark of a register that passes tests 1 to 10, with a place for each row of the table.
-fn marked_with(
+// The mark of a register that passes tests 1 to 10, from its rows in table sequence.
+fn mark_gathered(
     table: &[u64],
     register: u64,
     question: u64,
@@ -254,24 +258,31 @@ fn marked_with(
     list: &mut [u64],
 ) -> Answer
     requires { ⌜ Passes (length (now table)) (history (now table) register) question (now list) ⌝ }
-    requires { ⌜ rowCount (now table) ≤ length (now rows) ⌝ }
+    requires { ⌜ now rows ≡ rowsOf (now table) register ⌝ }
     ensures { λ r. ⌜ outcome r (now (list .exit)) ≡ judgedBy (now (table .entry)) register question allowance (now (list .entry)) ⌝ }
 {
-    let n = columns::rows_by_start(table, register, rows);
-    mark_rows(table, &rows[..n], question, allowance, list)
+    columns::put_by_start(table, rows);
+    mark_rows(table, rows, question, allowance, list)
 }
 
-// The mark of a register that passes tests 1 to 10.
-fn marked(table: &[u64], register: u64, question: u64, allowance: u64, list: &mut [u64]) -> Answer
-    requires { ⌜ Passes (length (now table)) (history (now table) register) question (now list) ⌝ }
-    ensures { λ r. ⌜ outcome r (now (list .exit)) ≡ judgedBy (now (table .entry)) register question allowance (now (list .entry)) ⌝ }
+// The marking call, with a place for each row of a table that passes tests 1 and 2.
+fn mark_with(
+    table: &[u64],
+    register: u64,
+    question: u64,
+    allowance: u64,
+    rows: &mut [u64],
+    list: &mut [u64],
+) -> Answer
+    requires { ⌜ (rowCount (now table) ≤ largestCount → rowCount (now table) ≤ length (now rows)) ⌝ }
+    ensures { λ r. ⌜ outcome r (now (list .exit)) ≡ mark (now (table .entry)) register question allowance (now (list .entry)) ⌝ }
 {
-    if table.len() / Row::COLUMNS <= FEW {
-        let mut few = [0u64; FEW];
-        return marked_with(table, register, question, allowance, &mut few, list);
+    let met = refusal(table, register, question, list.len(), rows);
+    if met.code != 0 {
+        return met;
     }
-    let mut rows = [0u64; Row::LARGEST_COUNT];
-    marked_with(table, register, question, allowance, &mut rows, list)
+    let n = met.rows as usize;
+    mark_gathered(table, register, question, allowance, &mut rows[..n], list)
 }
 
 // The marking call: fresh with an order at the front of the list, stale, spent, or a refusal; but for fresh the list is left as it was.
@@ -280,9 +291,10 @@ pub fn mark(table: &[u64], register: u64, question: u64, allowance: u64, list: &
     ensures demand { λ r. ⌜ Demand (now (table .entry)) register question allowance (now (list .entry)) (outcome r (now (list .exit))) ⌝ }
     ensures alike { λ r. ⌜ ((u : List ℕ) → Alike (now (table .entry)) u register → outcome r (now (list .exit)) ≡ mark u register question allowance (now (list .entry))) ⌝ }
 {
-    let met = refusal(table, register, question, list.len());
-    if met.code != 0 {
-        return met;
+    if table.len() / Row::COLUMNS <= FEW {
+        let mut few = [0u64; FEW];
+        return mark_with(table, register, question, allowance, &mut few, list);
     }
-    marked(table, register, question, allowance, list)
+    let mut rows = [0u64; Row::LARGEST_COUNT];
+    mark_with(table, register, question, allowance, &mut rows, list)
 }

@@ -15,6 +15,7 @@ use Rattle.history.specs.Table.{largestCount, rowCount, opAt, bears, rowsOf, hi
 use Rattle.history.specs.declared.Answer.{Answer}
 use Rattle.history.specs.Answer.{firstMet, passed}
 use Rattle.history.proofs.Rows.{in-rows, rows-rise, rows-few, history-count}
+use Rattle.screening.specs.Ready.{Gathered}
 use Rattle.conditions.specs.Tests.{rowTests, Listed}
 
 module _ (t : List ℕ) (register : ℕ) (list₀ : List ℕ) where
@@ -85,3 +86,8 @@ module _ (t : List ℕ) (register m : ℕ) (rows : List ℕ) (few : rowCount t �
   pub gathered-answer : (r : Answer) → r ≡ firstMet (rowTests (map (opAt t) (take m rows))) (passed (length (take m rows)))
       → r ≡ firstMet (rowTests (history t register)) (passed (length (history t register)))
   gathered-answer r e = e ∙ ap₂ (λ h n. firstMet (rowTests h) (passed n)) gathered-history (gathered-long ∙ g .0 ∙ sym (history-count t register))
+
+  pub gathered-front : Gathered t register rows
+  gathered-front =
+      let e : length (history t register) ≡ m = history-count t register ∙ sym (g .0) in
+      record { room = omega (arith, e, gathered-inside); front = rw e (g .1) }

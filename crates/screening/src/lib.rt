@@ -11,7 +11,7 @@ ghost use Rattle.history.specs.Answer.{firstMet, passed};
 ghost use Rattle.history.specs.Screen.{examined, screening, Screened};
 ghost use Rattle.history.proofs.Searches.{oneIf};
 ghost use Rattle.conditions.specs.Tests.{rowTests, Listed};
-ghost use Rattle.screening.specs.Ready.{Ready};
+ghost use Rattle.screening.specs.Ready.{Ready, Gathered};
 
 // 1 where the row bears the register, else 0.
 fn borne(table: &[u64], register: u64, row: usize) -> usize
@@ -120,32 +120,23 @@ pub fn examine_listed(table: &[u64], rows: &[u64]) -> Answer
     examine_many(table, rows)
 }
 
-// Tests 4 to 9 of a register, with a place for each row of the table.
+// Tests 4 to 9 of a register, with a place for each row of the table; its rows stand at the front of the slice then.
 fn examine_gathered(table: &[u64], register: u64, rows: &mut [u64]) -> Answer
     requires { ⌜ rowCount (now table) ≤ largestCount ⌝ }
     requires { ⌜ rowCount (now table) ≤ length (now rows) ⌝ }
     ensures { λ r. ⌜ r ≡ firstMet (rowTests (history (now (table .entry)) register)) (passed (length (history (now (table .entry)) register))) ⌝ }
+    ensures { λ r. ⌜ Gathered (now (table .entry)) register (now (rows .exit)) ⌝ }
 {
     let n = gather(table, register, rows);
     examine_listed(table, &rows[..n])
 }
 
-// Tests 4 to 9 of a register.
-fn examine_register(table: &[u64], register: u64) -> Answer
-    requires { ⌜ rowCount (now table) ≤ largestCount ⌝ }
-    ensures { λ r. ⌜ r ≡ firstMet (rowTests (history (now (table .entry)) register)) (passed (length (history (now (table .entry)) register))) ⌝ }
-{
-    if table.len() / Row::COLUMNS <= FEW {
-        let mut few = [0u64; FEW];
-        return examine_gathered(table, register, &mut few);
-    }
-    let mut rows = [0u64; Row::LARGEST_COUNT];
-    examine_gathered(table, register, &mut rows)
-}
-
-// Tests 1 to 9. `unasked` is the condition of test 3: no such question, or a k of 0.
-pub fn examine(table: &[u64], register: u64, unasked: bool) -> Answer
+// Tests 1 to 9, with a place for each row of a table that passes the first two; where none refuses, the register's rows stand at the front of
+// the slice then. `unasked` is the condition of test 3: no such question, or a k of 0.
+pub fn examine_into(table: &[u64], register: u64, unasked: bool, rows: &mut [u64]) -> Answer
+    requires { ⌜ (rowCount (now table) ≤ largestCount → rowCount (now table) ≤ length (now rows)) ⌝ }
     ensures { λ r. ⌜ r ≡ examined (length (now (table .entry))) (history (now (table .entry)) register) unasked ⌝ }
+    ensures { λ r. ⌜ (r .code ≡ 0 → Gathered (now (table .entry)) register (now (rows .exit))) ⌝ }
 {
     if table.len() % Row::COLUMNS != 0 {
         return Answer::refused(Answer::RAGGED, 0);
@@ -156,7 +147,19 @@ pub fn examine(table: &[u64], register: u64, unasked: bool) -> Answer
     if unasked {
         return Answer::refused(Answer::NO_SUCH_QUESTION, 0);
     }
-    examine_register(table, register)
+    examine_gathered(table, register, rows)
+}
+
+// Tests 1 to 9.
+pub fn examine(table: &[u64], register: u64, unasked: bool) -> Answer
+    ensures { λ r. ⌜ r ≡ examined (length (now (table .entry))) (history (now (table .entry)) register) unasked ⌝ }
+{
+    if table.len() / Row::COLUMNS <= FEW {
+        let mut few = [0u64; FEW];
+        return examine_into(table, register, unasked, &mut few);
+    }
+    let mut rows = [0u64; Row::LARGEST_COUNT];
+    examine_into(table, register, unasked, &mut rows)
 }
 
 // The screening: code 0 with the count of the register's rows exactly where the register is as the record `Screened` says.

@@ -8,7 +8,7 @@ ghost use mathlib.Core.List.{List, [], _∷_, flatMap};
 ghost use Prim.Native.Nat.{ℕ, _+_, _*_, _-_, _≤_, _<_, min, max};
 ghost use lib.ListN.{length, getD};
 ghost use lib.Seq.{sets};
-ghost use Rattle.history.specs.Table.{largestCount, rowCount, history, Alike};
+ghost use Rattle.history.specs.Table.{largestCount, rowCount, rowsOf, history, Alike};
 ghost use Rattle.history.specs.Screen.{Screened};
 ghost use Rattle.methods.specs.Zones.{forward};
 ghost use Rattle.methods.specs.Mark.{written};
@@ -335,27 +335,34 @@ fn list_rows(table: &[u64], rows: &[u64], list: &mut [u64]) -> usize
     list_many(table, rows, list)
 }
 
-// The zone list of a register that passes the screening, with a place for each row of the table.
-fn list_register(table: &[u64], register: u64, rows: &mut [u64], list: &mut [u64]) -> usize
+// The zone list of a register that passes the screening, from its rows in table sequence, at the front of the list where that has four places a
+// write; the number of writes.
+pub fn list_gathered(table: &[u64], register: u64, rows: &mut [u64], list: &mut [u64]) -> usize
     requires { ⌜ Screened (length (now table)) (history (now table) register) ⌝ }
-    requires { ⌜ rowCount (now table) ≤ length (now rows) ⌝ }
+    requires { ⌜ now rows ≡ rowsOf (now table) register ⌝ }
     ensures { λ r. ⌜ Laid (history (now (table .entry)) register) r (now (list .entry)) (now (list .exit)) ⌝ }
 {
-    let n = columns::rows_by_start(table, register, rows);
-    list_rows(table, &rows[..n], list)
+    columns::put_by_start(table, rows);
+    list_rows(table, rows, list)
 }
 
-// The zone list of a register that passes the screening, at the front of the list where that has four places a write; the number of writes.
-pub fn list_screened(table: &[u64], register: u64, list: &mut [u64]) -> usize
-    requires { ⌜ Screened (length (now table)) (history (now table) register) ⌝ }
-    ensures { λ r. ⌜ Laid (history (now (table .entry)) register) r (now (list .entry)) (now (list .exit)) ⌝ }
+// The call, with a place for each row of a table that passes tests 1 and 2.
+fn write_with(table: &[u64], register: u64, rows: &mut [u64], list: &mut [u64]) -> Answer
+    requires { ⌜ (rowCount (now table) ≤ largestCount → rowCount (now table) ≤ length (now rows)) ⌝ }
+    ensures { λ r. ⌜ outcome r (now (list .exit)) ≡ zoneCall (now (table .entry)) register (now (list .entry)) ⌝ }
+    ensures { λ r. ⌜ (r .code ≡ 0 → Shown (history (now (table .entry)) register) (now (list .exit))) ⌝ }
+    ensures { λ r. ⌜ ((u : List ℕ) → Alike (now (table .entry)) u register → outcome r (now (list .exit)) ≡ zoneCall u register (now (list .entry))) ⌝ }
 {
-    if table.len() / Row::COLUMNS <= FEW {
-        let mut few = [0u64; FEW];
-        return list_register(table, register, &mut few, list);
+    let met = screening::examine_into(table, register, false, rows);
+    if met.code != 0 {
+        return met;
     }
-    let mut rows = [0u64; Row::LARGEST_COUNT];
-    list_register(table, register, &mut rows, list)
+    let n = met.rows as usize;
+    let m = list_gathered(table, register, &mut rows[..n], list);
+    if list.len() < m * NUMBERS {
+        return Answer::refused(Answer::SHORT_LIST, 0);
+    }
+    met
 }
 
 // The zone list at the front of the lent list: four numbers a write, by rising low end: its row, 1 for forward or 2 for backward, low stamp,
@@ -365,13 +372,10 @@ pub fn write(table: &[u64], register: u64, list: &mut [u64]) -> Answer
     ensures shown { λ r. ⌜ (r .code ≡ 0 → Shown (history (now (table .entry)) register) (now (list .exit))) ⌝ }
     ensures alike { λ r. ⌜ ((u : List ℕ) → Alike (now (table .entry)) u register → outcome r (now (list .exit)) ≡ zoneCall u register (now (list .entry))) ⌝ }
 {
-    let met = screening::screen(table, register);
-    if met.code != 0 {
-        return met;
+    if table.len() / Row::COLUMNS <= FEW {
+        let mut few = [0u64; FEW];
+        return write_with(table, register, &mut few, list);
     }
-    let m = list_screened(table, register, list);
-    if list.len() < m * NUMBERS {
-        return Answer::refused(Answer::SHORT_LIST, 0);
-    }
-    met
+    let mut rows = [0u64; Row::LARGEST_COUNT];
+    write_with(table, register, &mut rows, list)
 }

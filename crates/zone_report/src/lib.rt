@@ -13,12 +13,14 @@ const LARGEST_LIST: usize = 4096;
 fn text(table: &[u64], register: u64, out: &mut [u8]) -> Answer
     ensures { λ r. ⌜ Printed (zonesText register (now (table .entry))) (now (out .entry)) r (now (out .exit)) ⌝ }
 {
-    let met = screening::screen(table, register);
+    let mut rows = [0u64; Row::LARGEST_COUNT];
+    let met = screening::examine_into(table, register, false, &mut rows);
     if met.code != 0 {
         return printing::refusal(met, out);
     }
+    let n = met.rows as usize;
     let mut list = [0u64; LARGEST_LIST];
-    let m = zone_list::list_screened(table, register, &mut list);
+    let m = zone_list::list_gathered(table, register, &mut rows[..n], &mut list);
     printing::headed(
         b"row,direction,low,high\n",
         &list,

@@ -1,24 +1,45 @@
 -- The outcome is the defined one; the other clauses follow from that (`promises`).
-use mathlib.Core.Path.{refl}
-use Rattle.marker.proofs.Refusing.{promises, mark-refused, mark-passes, mark-marked}
+use Rattle.marker.proofs.Refusing.{promises}
 use borrow.Author.Needs.{needs}
 use Rattle.marker.proofs.mark.Statement.{statement}
 use Rattle.marker.proofs.mark.Tie as tie
+use Rattle.marker.proofs.mark.Reads as reads
+use Rattle.marker.proofs.mark.Lts as lts
+use Rattle.marker.proofs.mark_with.Reads as mark-with-reads
 
-refusal-requires : tie.Need-refusal-requires
-refusal-requires c κs = search needs
+slice-aggregate-mark-with : tie.Need-slice-aggregate-mark-with
+slice-aggregate-mark-with c = search needs
 
-returns : tie.Need-returns
-returns c = promises _ _ _ _ _ _ (mark-refused _ _ _ _ _ _ (c .before .before .refusal .ensures _ refl) (c .if1 .taken))
-
-marked-requires : tie.Need-marked-requires
-marked-requires c κs = mark-passes _ _ _ 0 _ _ (c .before .before .before .refusal .ensures _ refl) (c .before .if1 .left)
+mark-with-requires : tie.Need-mark-with-requires
+mark-with-requires c κs = search needs
 
 same-length : tie.Need-same-length
 same-length c = search needs
 
+returns : tie.Need-returns
+returns c = promises _ _ _ _ _ _ (c .before .before .before .mark-with .ensures)
+
+slice-aggregate-mark-with-2 : tie.Need-slice-aggregate-mark-with-2
+slice-aggregate-mark-with-2 c = search needs
+
+mark-with-requires-2 : tie.Need-mark-with-requires-2
+mark-with-requires-2 c κs = search needs
+
+same-length-2 : tie.Need-same-length-2
+same-length-2 c = search needs
+
 returns-2 : tie.Need-returns-2
-returns-2 c = promises _ _ _ _ _ _ (mark-marked _ _ _ _ _ _ (c .before .before .before .before .before .before .refusal .ensures _ refl) (c .before .before .before .before .if1 .left) _ (c .before .before .marked .ensures))
+returns-2 c = promises _ _ _ _ _ _ (c .before .before .before .mark-with2 .ensures)
 
 pub mark-spec : {M : Type 1} → statement M
-mark-spec = tie.close (tie.spec refusal-requires returns marked-requires same-length returns-2)
+mark-spec =
+    tie.close
+    (tie.spec
+    slice-aggregate-mark-with
+    mark-with-requires
+    same-length
+    returns
+    slice-aggregate-mark-with-2
+    mark-with-requires-2
+    same-length-2
+    returns-2)

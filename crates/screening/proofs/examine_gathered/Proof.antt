@@ -1,4 +1,4 @@
-use Rattle.screening.proofs.Loops.{gathered-listed, gathered-answer, gathered-inside, gathered-size}
+use Rattle.screening.proofs.Loops.{gathered-listed, gathered-answer, gathered-inside, gathered-size, gathered-front}
 use borrow.Author.Needs.{needs}
 use Rattle.screening.proofs.examine_gathered.Statement.{statement}
 use Rattle.screening.proofs.examine_gathered.Tie as tie
@@ -19,7 +19,7 @@ same-length : tie.Need-same-length
 same-length c = search needs
 
 returns : tie.Need-returns
-returns c = gathered-answer _ _ _ _ (c .before .before .before .before .before .before .before .before .pre .0) (c .before .before .before .before .gather .ensures) _ (c .examine-listed .ensures)
+returns c = (gathered-answer _ _ _ _ (c .before .before .before .before .before .before .before .before .pre .0) (c .before .before .before .before .gather .ensures) _ (c .examine-listed .ensures), gathered-front _ _ _ _ (c .before .before .before .before .before .before .before .before .pre .0) (c .before .before .before .before .gather .ensures))
 
 pub examine-gathered-spec : {M : Type 1} → statement M
 examine-gathered-spec =
