@@ -17,8 +17,8 @@ use Rattle.lists.proofs.Ranges.{in-below}
 use Rattle.history.specs.declared.Op.{Op}
 use Rattle.history.specs.declared.Answer.{Answer}
 use Rattle.history.specs.Table.{opAt}
-use Rattle.history.specs.Answer.{Code, number, Test, test, refusedOr, firstMet, passed, lowestRow}
-use Rattle.history.proofs.Refusals.{Coded, orTest, chained, met-chained}
+use Rattle.history.specs.Answer.{Code, number, Test, test, refusedOr, firstMet, passed, lowestRow, orTest}
+use Rattle.history.proofs.Refusals.{Coded, chained, met-chained}
 use Rattle.writers.specs.Writers.{writerOf}
 use Rattle.conditions.specs.declared.RowTest.{RowTest}
 use Rattle.conditions.specs.declared.RowTest.the-variants.{Kind, Span, Twin, Orphan, Early}

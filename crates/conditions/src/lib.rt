@@ -10,9 +10,8 @@ ghost use mathlib.Core.List.{map};
 ghost use lib.Dec.{ltb, leb};
 ghost use lib.ListN.{length, getD};
 ghost use Rattle.history.specs.Table.{opAt, isWrite, isRead, precedes};
-ghost use Rattle.history.specs.Answer.{number, firstMet, passed};
+ghost use Rattle.history.specs.Answer.{number, firstMet, passed, orTest};
 ghost use Rattle.history.specs.Screen.{wrongKind, wrongSpan};
-ghost use Rattle.history.proofs.Refusals.{orTest};
 ghost use Rattle.writers.specs.Writers.{Within, writerOf, rowOp};
 ghost use Rattle.conditions.specs.Tests.{codeOf, rowTests, shows, lowestAt, shownTest, Quiet, AllQuiet, Listed};
 

@@ -11,7 +11,7 @@ use lib.Dec.{eqb}
 use Rattle.lists.specs.declared.Found.{Found}
 use Rattle.lists.specs.declared.Found.the-variants.{At, Nothing}
 use Rattle.history.specs.declared.Answer.{Answer}
-use Rattle.history.specs.Answer.{number, refused, Test, ifSo, refusedOr, firstMet}
+use Rattle.history.specs.Answer.{number, refused, Test, ifSo, refusedOr, firstMet, orTest}
 
 -- no test's condition is met
 abbrev pub NoFault : List Test → Type 0
@@ -68,10 +68,7 @@ if-so false e = refl
 pub if-not : (b : Bool) → b ≡ false → ifSo b ≡ Nothing
 if-not b e = rw e
 
--- The sequence as a chain: the refusal so far, or what the next test finds.
-unfoldable pub orTest : Answer → Test → Answer
-orTest a x = cond (eqb (a .code) 0) (refusedOr (x .code) (x .fault) a) a
-
+-- The sequence as a chain.
 unfoldable pub chained : Answer → List Test → Answer
 chained a [] = a
 chained a (x ∷ xs) = chained (orTest a x) xs

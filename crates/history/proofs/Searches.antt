@@ -6,7 +6,7 @@ use mathlib.Core.Bool.{Bool, true, false}
 use mathlib.Core.List.{List, _∷_, map}
 use native.Mathlib.Omega.{arith}
 use lib.ListN.{length}
-use Rattle.lists.specs.Lists.{put, keep, upTo}
+use Rattle.lists.specs.Lists.{oneIf, put, keep, upTo}
 use Rattle.history.specs.declared.Op.{Op}
 use Rattle.history.specs.Table.{rowCount, opAt, bears, rowsOf, history}
 
@@ -17,10 +17,6 @@ opsAt t register xs = map (opAt t) (keep (bears t register) xs)
 pub history-ops : (t : List ℕ) (register : ℕ) → history t register ≡ opsAt t register (upTo (rowCount t))
 unfolding history rowsOf
 history-ops t register = refl
-
-abbrev pub oneIf : Bool → ℕ
-oneIf true = 1
-oneIf false = 0
 
 pub one-if-small : (b : Bool) → oneIf b ≤ 1
 one-if-small true = omega arith

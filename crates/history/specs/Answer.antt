@@ -3,7 +3,7 @@
 use Prim.Native.Nat.{ℕ}
 use mathlib.Core.Bool.{Bool, cond}
 use mathlib.Core.List.{List, [], _∷_, _++_}
-use lib.Dec.{ltb}
+use lib.Dec.{ltb, eqb}
 use lib.ListN.{length, drop}
 use Rattle.lists.specs.declared.Found.{Found}
 use Rattle.lists.specs.declared.Found.the-variants.{At, Nothing}
@@ -89,6 +89,10 @@ refusedOr code Nothing a = a
 unfoldable pub firstMet : List Test → Answer → Answer
 firstMet [] a = a
 firstMet (x ∷ xs) a = let rest = firstMet xs a in refusedOr (x .code) (x .fault) rest
+
+-- The same, a test at a time: the refusal so far, or what the next test finds.
+unfoldable pub orTest : Answer → Test → Answer
+orTest a x = cond (eqb (a .code) 0) (refusedOr (x .code) (x .fault) a) a
 
 -- An answer written: its four numbers at the front of a lent list, the rest untouched; or 10 and the list as it was (01's table, 10).
 abbrev pub numbers : Answer → List ℕ

@@ -6,6 +6,11 @@ use mathlib.Core.List.{List, [], _∷_}
 use Rattle.lists.specs.declared.Found.{Found}
 use Rattle.lists.specs.declared.Found.the-variants.{At, Nothing}
 
+-- 1 for what holds, 0 for what does not: what it adds to a count
+abbrev pub oneIf : Bool → ℕ
+oneIf true = 1
+oneIf false = 0
+
 -- n numbers from i on: i, i + 1, ..
 unfoldable pub from : ℕ → ℕ → List ℕ
 from i zero = []

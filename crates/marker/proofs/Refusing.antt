@@ -12,10 +12,10 @@ use lib.ListN.{length}
 use Rattle.history.specs.declared.Op.{Op}
 use Rattle.history.specs.declared.Answer.{Answer}
 use Rattle.history.specs.Table.{history, Alike}
-use Rattle.history.specs.Answer.{short-list, refused, Test, test, ifSo, firstMet, passed}
+use Rattle.history.specs.Answer.{short-list, refused, Test, test, ifSo, firstMet, passed, orTest}
 use Rattle.history.specs.Screen.{tests, examined}
 use Rattle.history.proofs.Rows.{same-history}
-use Rattle.history.proofs.Refusals.{coded-append, code-no-fault, no-fault-answer, orTest, chained, chained-append, met-chained}
+use Rattle.history.proofs.Refusals.{coded-append, code-no-fault, no-fault-answer, chained, chained-append, met-chained}
 use Rattle.history.proofs.Screened.{tests-coded}
 use Rattle.methods.specs.Prepared.{prepared}
 use Rattle.methods.specs.Mark.{Outcome, noQuestion, method, judged, markTests, markOf, mark}

@@ -9,9 +9,9 @@ use native.Mathlib.Omega.{arith}
 use native.Mathlib.Decide.{decLt}
 use lib.ListN.{length, getD, set, take, drop, length-set}
 use lib.Seq.{drop-cons, getD-set-same, getD-set-other}
-use Rattle.lists.specs.Lists.{put, keep}
+use Rattle.lists.specs.Lists.{oneIf, put, keep}
 use Rattle.history.specs.Table.{opAt, isWrite}
-use Rattle.history.proofs.Searches.{oneIf, one-if-small}
+use Rattle.history.proofs.Searches.{one-if-small}
 use Rattle.atomicity.specs.Order.{writesBetween}
 use Rattle.orders.specs.Faults.{writesBefore, Counted}
 

@@ -13,9 +13,9 @@ use Rattle.lists.specs.declared.Found.{Found}
 use Rattle.lists.specs.declared.Found.the-variants.{At, Nothing}
 use Rattle.history.specs.declared.Answer.{Answer}
 use Rattle.history.specs.Table.{history, Alike}
-use Rattle.history.specs.Answer.{number, Test, refusedOr, passed}
+use Rattle.history.specs.Answer.{number, Test, refusedOr, passed, orTest}
 use Rattle.history.specs.Screen.{tests, examined, Screened}
-use Rattle.history.proofs.Refusals.{coded-append, orTest, chained, chained-append, chained-refused, met-chained}
+use Rattle.history.proofs.Refusals.{coded-append, chained, chained-append, chained-refused, met-chained}
 use Rattle.history.proofs.Screened.{tests-coded, examined-exactly}
 use Rattle.orders.specs.declared.Fault.the-variants.{Misfit, Late, TooFar}
 use Rattle.atomicity.specs.Check.{orderTests, check, Accepted}

@@ -53,7 +53,8 @@ fn lines_length(numbers: &[u64], w: usize, k: usize) -> usize
 fn put_lines(numbers: &[u64], w: usize, k: usize, out: &mut [u8], at: usize) -> usize
     requires { ⌜ k * w ≤ length (now numbers) ⌝ }
     requires { ⌜ at + length (linesOf w k (now numbers)) ≤ length (now out) ⌝ }
-    ensures { λ r. ⌜ (r ≡ at + length (linesOf w k (now (numbers .entry)))) × (now (out .exit) ≡ sets (now (out .entry)) at (linesOf w k (now (numbers .entry)))) ⌝ }
+    ensures { λ r. ⌜ r ≡ at + length (linesOf w k (now (numbers .entry))) ⌝ }
+    ensures { λ _. ⌜ now (out .exit) ≡ sets (now (out .entry)) at (linesOf w k (now (numbers .entry))) ⌝ }
 {
     let mut place = at;
     let mut i: usize = 0;

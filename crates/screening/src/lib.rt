@@ -6,10 +6,10 @@ ghost use mathlib.Core.Logic.{_↔_};
 ghost use Prim.Native.Nat.{ℕ, _+_, _*_, _≤_};
 ghost use mathlib.Core.List.{List, map};
 ghost use lib.ListN.{length, take};
+ghost use Rattle.lists.specs.Lists.{oneIf};
 ghost use Rattle.history.specs.Table.{largestCount, rowCount, opAt, bears, rowsOf, history, Alike};
 ghost use Rattle.history.specs.Answer.{firstMet, passed};
 ghost use Rattle.history.specs.Screen.{examined, screening, Screened};
-ghost use Rattle.history.proofs.Searches.{oneIf};
 ghost use Rattle.conditions.specs.Tests.{rowTests, Listed};
 ghost use Rattle.screening.specs.Ready.{Ready, Gathered};
 

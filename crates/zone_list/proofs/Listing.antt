@@ -37,7 +37,7 @@ use Rattle.zones.proofs.LastStarts.{sound-ends}
 use Rattle.zones.proofs.Zone.{write-at}
 use Rattle.zones.proofs.ByLow.{write-of, by-low, by-low-in, by-low-write}
 use Rattle.zone_list.specs.ZoneList.{stampsOf, directed, numbersOf, zoneList}
-use Rattle.zone_list.specs.Stamps.{stampsAt, Writes, numbersAt, Filled}
+use Rattle.zone_list.specs.Stamps.{stampsAt, Writes, numbersAt, OfRows}
 use Rattle.zone_list.proofs.Clusters.{least-sort, greatest-sort, least-map, greatest-map, least-own, greatest-own, keep-at}
 use Rattle.zone_list.proofs.Comparing.{compares}
 
@@ -199,38 +199,26 @@ module _ {t : List ℕ} {register : ℕ} {rows : List ℕ} (g : Listed t registe
 -- THE FILLING, of whatever register has the rows
 module _ {t rows : List ℕ} {C : Cols} (m : Made t rows C) (g : (register : ℕ) × Listed t register rows) (late : List ℕ) (z : Zoned C late) (n : ℕ) (places : List ℕ)
     (a : n ≤ length (C .writer)) (room : length places ≡ length rows) (b : take n places ≡ byLow (C .finish) late (C .writer)) where
-  few : n ≤ length rows
-  few = omega (arith, a, writers-long (g .1) m)
+  pub fill-few : n ≤ length rows
+  fill-few = omega (arith, a, writers-long (g .1) m)
 
   -- where the list is too short
-  pub fill-short : (old : List ℕ) → length old < n * 4 → Filled t rows C late places n old old
-  fill-short old l =
+  pub fill-short : (old : List ℕ) → length old < n * 4 → OfRows t rows n old old
+  fill-short old l r k =
       record {
-        few = few;
-        zoned = z;
-        writes = b;
-        laid = λ r k.
-            record {
-              few = omega (arith, few, lent-long k);
-              count = counted k m late z n places a room b;
-              short = λ s. refl;
-              full = λ f. absurd (omega arith);
-            };
+        few = omega (arith, fill-few, lent-long k);
+        count = counted k m late z n places a room b;
+        short = λ s. refl;
+        full = λ f. absurd (omega arith);
       }
 
   -- and where it is not
   pub fill-full : (old list : List ℕ) → n * 4 ≤ length old → list ≡ written (flatMap (numbersAt t rows (C .writer)) (take n places)) old →
-      Filled t rows C late places n old list
-  fill-full old list l q =
+      OfRows t rows n old list
+  fill-full old list l q r k =
       record {
-        few = few;
-        zoned = z;
-        writes = b;
-        laid = λ r k.
-            record {
-              few = omega (arith, few, lent-long k);
-              count = counted k m late z n places a room b;
-              short = λ s. absurd (omega arith);
-              full = λ f. q ∙ ap (λ (x : List ℕ). written x old) (ap (flatMap (numbersAt t rows (C .writer))) b ∙ list-is k m late z);
-            };
+        few = omega (arith, fill-few, lent-long k);
+        count = counted k m late z n places a room b;
+        short = λ s. absurd (omega arith);
+        full = λ f. q ∙ ap (λ (x : List ℕ). written x old) (ap (flatMap (numbersAt t rows (C .writer))) b ∙ list-is k m late z);
       }

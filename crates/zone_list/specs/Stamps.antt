@@ -3,7 +3,7 @@
 use Prim.Native.Nat.{ℕ, _*_, _%_, _≤_, _<_}
 use mathlib.Core.Path.{_≡_}
 use mathlib.Core.List.{List, _∷_}
-use lib.ListN.{length, getD, take}
+use lib.ListN.{length, getD}
 use Rattle.history.specs.declared.Op.{Op}
 use Rattle.history.specs.Table.{history}
 use Rattle.methods.specs.declared.Zone.{Zone}
@@ -11,10 +11,9 @@ use Rattle.methods.specs.Extremes.{least, greatest}
 use Rattle.methods.specs.Zones.{forward}
 use Rattle.methods.specs.Mark.{written}
 use Rattle.positions.specs.Places.{upto}
-use Rattle.positions.specs.Columns.{Cols, readOf}
+use Rattle.positions.specs.Columns.{readOf}
 use Rattle.writers.specs.Writers.{rowOp}
 use Rattle.columns.specs.Rows.{Listed}
-use Rattle.zones.specs.Zones.{Zoned, byLow}
 use Rattle.zone_list.specs.ZoneList.{directed, zoneList}
 
 -- the smallest finish and the largest start of some positions, begun with those of w
@@ -52,10 +51,3 @@ pub record Laid (h : List Op) (n : ℕ) (old list : List ℕ) : Type 0 where
 -- the same of whatever register has these rows by rising start
 abbrev pub OfRows : List ℕ → List ℕ → ℕ → List ℕ → List ℕ → Type 0
 OfRows t rows n old list = (register : ℕ) → Listed t register rows → Laid (history t register) n old list
-
--- the same from the columns, with the zones and the writes by low end
-pub record Filled (t rows : List ℕ) (C : Cols) (late places : List ℕ) (n : ℕ) (old list : List ℕ) : Type 0 where
-  pub few : n ≤ length rows
-  pub zoned : Zoned C late
-  pub writes : take n places ≡ byLow (C .finish) late (C .writer)
-  pub laid : OfRows t rows n old list

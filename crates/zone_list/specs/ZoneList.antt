@@ -3,13 +3,14 @@
 use Prim.Native.Nat.{ℕ}
 use mathlib.Core.Bool.{Bool, false, cond}
 use mathlib.Core.List.{List, [], _∷_, flatMap}
+use mathlib.Core.Path.{_≡_}
 use lib.Dec.{ltb, eqb}
 use lib.ListN.{length}
 use Rattle.lists.specs.Lists.{keep}
 use Rattle.lists.specs.Sorts.{sort}
 use Rattle.history.specs.declared.Op.{Op}
 use Rattle.history.specs.declared.Answer.{Answer}
-use Rattle.history.specs.Table.{largestStamp, history}
+use Rattle.history.specs.Table.{largestStamp, history, Alike}
 use Rattle.history.specs.Answer.{fresh, short-list, number, refused, passed}
 use Rattle.history.specs.Screen.{screening}
 use Rattle.methods.specs.declared.Zone.{Zone}
@@ -52,3 +53,7 @@ unfoldable pub zoneCall : List ℕ → ℕ → List ℕ → Outcome
 zoneCall t register list =
     let met = screening t register in
     cond (eqb (met .code) (number fresh)) (listed (history t register) list) (outcome met list)
+
+-- the outcome is that of every table of this length with the same rows of the register at the same places
+abbrev pub OfAlike : List ℕ → ℕ → List ℕ → Outcome → Type 0
+OfAlike t register list result = (u : List ℕ) → Alike t u register → result ≡ zoneCall u register list

@@ -6,9 +6,9 @@ use methods::Zone;
 ghost use mathlib.Core.Path.{_≡_};
 ghost use mathlib.Core.List.{List, [], _∷_, flatMap};
 ghost use Prim.Native.Nat.{ℕ, _+_, _*_, _-_, _≤_, _<_, min, max};
-ghost use lib.ListN.{length, getD};
+ghost use lib.ListN.{length, getD, take};
 ghost use lib.Seq.{sets};
-ghost use Rattle.history.specs.Table.{largestCount, rowCount, rowsOf, history, Alike};
+ghost use Rattle.history.specs.Table.{largestCount, rowCount, rowsOf, history};
 ghost use Rattle.history.specs.Screen.{Screened};
 ghost use Rattle.methods.specs.Zones.{forward};
 ghost use Rattle.methods.specs.Mark.{written};
@@ -16,9 +16,10 @@ ghost use Rattle.ranking.specs.Ranked.{Fit};
 ghost use Rattle.positions.specs.Columns.{Cols, cols, Linked};
 ghost use Rattle.columns.specs.Rows.{Listed};
 ghost use Rattle.columns.specs.Made.{Room, Made};
-ghost use Rattle.zone_list.specs.ZoneList.{directed, outcome, zoneCall};
+ghost use Rattle.zones.specs.Zones.{Zoned, byLow};
+ghost use Rattle.zone_list.specs.ZoneList.{directed, outcome, zoneCall, OfAlike};
 ghost use Rattle.zone_list.specs.Shown.{Shown};
-ghost use Rattle.zone_list.specs.Stamps.{stampsAt, Timely, Writes, numbersAt, Laid, OfRows, Filled};
+ghost use Rattle.zone_list.specs.Stamps.{stampsAt, Timely, Writes, numbersAt, Laid, OfRows};
 
 // The numbers of a write.
 pub const NUMBERS: usize = 4;
@@ -142,13 +143,15 @@ fn put_zones(
     places: &[u64],
     list: &mut [u64],
 )
-    requires { ⌜ Fit (now table) (now rows) ⌝ }
-    requires { ⌜ length (now writer) ≡ length (now rows) ⌝ }
-    requires { ⌜ Linked (now writer) (now chain) (now prev) ⌝ }
-    requires { ⌜ Timely (now table) (now rows) (now finish) (now writer) ⌝ }
-    requires { ⌜ Writes (now writer) (now places) ⌝ }
-    requires { ⌜ length (now places) * 4 ≤ length (now list) ⌝ }
-    ensures { λ _. ⌜ now (list .exit) ≡ written (flatMap (numbersAt (now (table .entry)) (now (rows .entry)) (now (writer .entry))) (now (places .entry))) (now (list .entry)) ⌝ }
+    ghost { ℕ → List ℕ }
+    requires { λ N. ⌜ numbersAt (now table) (now rows) (now writer) ≡ N ⌝ }
+    requires { λ N. ⌜ Fit (now table) (now rows) ⌝ }
+    requires { λ N. ⌜ length (now writer) ≡ length (now rows) ⌝ }
+    requires { λ N. ⌜ Linked (now writer) (now chain) (now prev) ⌝ }
+    requires { λ N. ⌜ Timely (now table) (now rows) (now finish) (now writer) ⌝ }
+    requires { λ N. ⌜ Writes (now writer) (now places) ⌝ }
+    requires { λ N. ⌜ length (now places) * 4 ≤ length (now list) ⌝ }
+    ensures { λ N _. ⌜ now (list .exit) ≡ written (flatMap N (now (places .entry))) (now (list .entry)) ⌝ }
 {
     let mut i: usize = 0;
     while i < places.len() {
@@ -181,7 +184,10 @@ pub fn fill(
     requires { λ C. ⌜ length (now places) ≡ length (now rows) ⌝ }
     requires { λ C. ⌜ length (now rows) ≤ length (now low) ⌝ }
     requires { λ C. ⌜ length (now rows) ≤ largestCount ⌝ }
-    ensures { λ C r. ⌜ Filled (now (table .entry)) (now (rows .entry)) C (now (late .exit)) (now (places .exit)) r (now (list .entry)) (now (list .exit)) ⌝ }
+    ensures { λ C r. ⌜ r ≤ length (now (rows .entry)) ⌝ }
+    ensures { λ C r. ⌜ Zoned C (now (late .exit)) ⌝ }
+    ensures { λ C r. ⌜ take r (now (places .exit)) ≡ byLow (now (finish .entry)) (now (late .exit)) (now (writer .entry)) ⌝ }
+    ensures { λ C r. ⌜ OfRows (now (table .entry)) (now (rows .entry)) r (now (list .entry)) (now (list .exit)) ⌝ }
 {
     let m = zones::by_low(start, finish, writer, chain, late, low, places);
     if m * NUMBERS <= list.len() {
@@ -351,7 +357,7 @@ fn write_with(table: &[u64], register: u64, rows: &mut [u64], list: &mut [u64]) 
     requires { ⌜ (rowCount (now table) ≤ largestCount → rowCount (now table) ≤ length (now rows)) ⌝ }
     ensures { λ r. ⌜ outcome r (now (list .exit)) ≡ zoneCall (now (table .entry)) register (now (list .entry)) ⌝ }
     ensures { λ r. ⌜ (r .code ≡ 0 → Shown (history (now (table .entry)) register) (now (list .exit))) ⌝ }
-    ensures { λ r. ⌜ ((u : List ℕ) → Alike (now (table .entry)) u register → outcome r (now (list .exit)) ≡ zoneCall u register (now (list .entry))) ⌝ }
+    ensures { λ r. ⌜ OfAlike (now (table .entry)) register (now (list .entry)) (outcome r (now (list .exit))) ⌝ }
 {
     let met = screening::examine_into(table, register, false, rows);
     if met.code != 0 {
@@ -370,7 +376,7 @@ fn write_with(table: &[u64], register: u64, rows: &mut [u64], list: &mut [u64]) 
 pub fn write(table: &[u64], register: u64, list: &mut [u64]) -> Answer
     ensures outcome { λ r. ⌜ outcome r (now (list .exit)) ≡ zoneCall (now (table .entry)) register (now (list .entry)) ⌝ }
     ensures shown { λ r. ⌜ (r .code ≡ 0 → Shown (history (now (table .entry)) register) (now (list .exit))) ⌝ }
-    ensures alike { λ r. ⌜ ((u : List ℕ) → Alike (now (table .entry)) u register → outcome r (now (list .exit)) ≡ zoneCall u register (now (list .entry))) ⌝ }
+    ensures alike { λ r. ⌜ OfAlike (now (table .entry)) register (now (list .entry)) (outcome r (now (list .exit))) ⌝ }
 {
     if table.len() / Row::COLUMNS <= FEW {
         let mut few = [0u64; FEW];

@@ -34,7 +34,7 @@ use Rattle.columns.specs.Made.{Made}
 use Rattle.zones.specs.Zones.{zoneBy, Zoned, byLow}
 use Rattle.zones.proofs.ByLow.{zone-at, by-low, by-low-in}
 use Rattle.zone_list.specs.ZoneList.{stampsOf, directed, numbersOf, zoneList}
-use Rattle.zone_list.specs.Stamps.{Filled}
+use Rattle.zone_list.specs.Stamps.{OfRows}
 use Rattle.zone_list.proofs.Comparing.{compares}
 use Rattle.zone_list.proofs.Listing.{numbers-long}
 use Rattle.zone_method.specs.Deciding.{zoneAt, decides}
@@ -105,9 +105,9 @@ columns-decide {C} {H} o late z =
     L = byLow (C .finish) late (C .writer)
 
 -- what a filled list decides is so of every history that has the columns
-pub filled-decides : {t rows : List ℕ} {C : Cols} {late places : List ℕ} {n : ℕ} {old list : List ℕ} → Made t rows C → (register : ℕ) × Listed t register rows →
-    Filled t rows C late places n old list → n * 4 ≤ length old → Says C (λ H. decides list n ≡ isOne H)
-filled-decides {t} {late = late} {n = n} {old = old} {list = list} m (register, g) f l H o =
-    list-decides (g .screened) (history-rows t register) old list n (f .laid register g .full l) (f .laid register g .count)
-    ∙ columns-decide (m .columns register g) late (f .zoned)
-    ∙ sym (columns-decide o late (f .zoned))
+pub filled-decides : {t rows : List ℕ} {C : Cols} {late : List ℕ} {n : ℕ} {old list : List ℕ} → Made t rows C → (register : ℕ) × Listed t register rows →
+    Zoned C late → OfRows t rows n old list → n * 4 ≤ length old → Says C (λ H. decides list n ≡ isOne H)
+filled-decides {t} {late = late} {n = n} {old = old} {list = list} m (register, g) z f l H o =
+    list-decides (g .screened) (history-rows t register) old list n (f register g .full l) (f register g .count)
+    ∙ columns-decide (m .columns register g) late z
+    ∙ sym (columns-decide o late z)

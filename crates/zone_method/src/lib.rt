@@ -12,7 +12,7 @@ ghost use Rattle.methods.specs.Mark.{untried};
 ghost use Rattle.clusters.specs.Pass.{reached};
 ghost use Rattle.positions.specs.Places.{Once};
 ghost use Rattle.positions.specs.Columns.{Cols, cols, Linked, Sound, Says};
-ghost use Rattle.placing.specs.States.{isFree, stateOf, Ready};
+ghost use Rattle.placing.specs.States.{State, isFree, stateOf, Ready};
 ghost use Rattle.placing.specs.Searched.{Searched};
 ghost use Rattle.columns.specs.Rows.{Listed};
 ghost use Rattle.columns.specs.Made.{Made};
@@ -83,11 +83,13 @@ fn lay(
     order: &mut [u64],
     at: usize,
 ) -> usize
-    requires { ⌜ Linked (now writer) (now last) (now prev) ⌝ }
-    requires { ⌜ Ready (length (now writer)) (stateOf (now placed) (now order) at (length (now writer))) ⌝ }
-    requires { ⌜ Whole (now writer) (now list) (length (now list)) (stateOf (now placed) (now order) at (length (now writer))) ⌝ }
-    requires { ⌜ Once (now list) ⌝ }
-    ensures { λ r. ⌜ Lays (now (writer .entry)) (now (list .entry)) (stateOf (now (placed .entry)) (now (order .entry)) at (length (now (writer .entry)))) (stateOf (now (placed .exit)) (now (order .exit)) r (length (now (writer .entry)))) ⌝ }
+    ghost { State }
+    requires { λ s. ⌜ stateOf (now placed) (now order) at (length (now writer)) ≡ s ⌝ }
+    requires { λ s. ⌜ Linked (now writer) (now last) (now prev) ⌝ }
+    requires { λ s. ⌜ Ready (length (now writer)) s ⌝ }
+    requires { λ s. ⌜ Whole (now writer) (now list) (length (now list)) s ⌝ }
+    requires { λ s. ⌜ Once (now list) ⌝ }
+    ensures { λ s r. ⌜ Lays (now (writer .entry)) (now (list .entry)) s (stateOf (now (placed .exit)) (now (order .exit)) r (s .top)) ⌝ }
 {
     let mut a = at;
     let mut i = list.len();

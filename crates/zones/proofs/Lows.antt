@@ -13,7 +13,7 @@ use Rattle.methods.specs.Zones.{low}
 use Rattle.positions.specs.Places.{upto}
 use Rattle.positions.specs.Columns.{isOwn}
 use Rattle.positions.proofs.Places.{below, upto-more, upto-out, upto-zero}
-use Rattle.zones.specs.Zones.{lastBy, Lates, zoneBy, Lows, Ending}
+use Rattle.zones.specs.Zones.{lastBy, Lates, zoneBy, writesAt, Lows}
 use Rattle.zones.proofs.LastStarts.{lates-none, lates-skip, lates-push}
 
 -- the writes below i are at the front of the list, m in number, and have the largest starts of their clusters and their low ends
@@ -40,11 +40,12 @@ module _ (start finish writer last column₀ list₀ : List ℕ) where
       }
 
   module _ (i m : ℕ) (late column list : List ℕ) (g : Listing start finish writer last i m late column column₀ list list₀) where
-    pub list-end : length writer ≤ i → length writer ≡ length start → Ending start finish writer last late column m list
+    pub list-end : length writer ≤ i → length writer ≡ length start →
+        (m ≤ length writer) × (take m list ≡ writesAt writer) × Lates start writer last (length start) late × Lows finish late writer (length writer) column
     list-end h s =
         let e : i ≡ length writer = omega (arith, g .within) in
         let d : i ≡ length start = omega arith in
-        record { few = omega (arith, g .few); written = g .written ∙ rw e; lates = rw d at (g .lates); lows = rw e at (g .ends) }
+        (omega (arith, g .few), g .written ∙ rw e, rw d at (g .lates), rw e at (g .ends))
 
     module _ (h : i < length writer) where
       pub list-skip : (getD writer i 0 ≡ i → ⊥) → Listing start finish writer last (i + 1) m late column column₀ list list₀

@@ -59,13 +59,6 @@ pub record Lows (finish late writer : List ℕ) (i : ℕ) (column : List ℕ) : 
   pub long : length writer ≤ length column
   pub lows : (w : ℕ) → w < i → getD writer w 0 ≡ w → getD column w 0 ≡ low (zoneBy finish late w)
 
--- the n writes at the front of a list, with the largest start of each cluster and the low end of each zone
-pub record Ending (start finish writer last late column : List ℕ) (n : ℕ) (list : List ℕ) : Type 0 where
-  pub few : n ≤ length writer
-  pub written : take n list ≡ writesAt writer
-  pub lates : Lates start writer last (length start) late
-  pub lows : Lows finish late writer (length writer) column
-
 -- a list of positions
 abbrev pub Inside : List ℕ → List ℕ → Type 0
 Inside column list = (i : ℕ) → i < length list → getD list i 0 < length column

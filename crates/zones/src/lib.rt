@@ -3,7 +3,7 @@ use methods::Zone;
 ghost use mathlib.Core.Path.{_≡_};
 ghost use Prim.Native.Nat.{_≤_, _<_, max};
 ghost use lib.ListN.{length, getD, take};
-ghost use Rattle.zones.specs.Zones.{lastBy, Ends, Lates, zoneBy, byLow, Ending};
+ghost use Rattle.zones.specs.Zones.{lastBy, Ends, Lates, zoneBy, writesAt, byLow, Lows};
 
 pub fn larger(a: u64, b: u64) -> u64
     ensures { λ r. ⌜ r ≡ max a b ⌝ }
@@ -54,7 +54,10 @@ fn low_ends(
     requires { ⌜ length (now late) ≡ length (now start) ⌝ }
     requires { ⌜ length (now writer) ≤ length (now low) ⌝ }
     requires { ⌜ length (now writer) ≤ length (now list) ⌝ }
-    ensures { λ r. ⌜ Ending (now (start .entry)) (now (finish .entry)) (now (writer .entry)) (now (last .entry)) (now (late .exit)) (now (low .exit)) r (now (list .exit)) ⌝ }
+    ensures { λ r. ⌜ r ≤ length (now (writer .entry)) ⌝ }
+    ensures { λ r. ⌜ take r (now (list .exit)) ≡ writesAt (now (writer .entry)) ⌝ }
+    ensures { λ _. ⌜ Lates (now (start .entry)) (now (writer .entry)) (now (last .entry)) (length (now (start .entry))) (now (late .exit)) ⌝ }
+    ensures { λ _. ⌜ Lows (now (finish .entry)) (now (late .exit)) (now (writer .entry)) (length (now (writer .entry))) (now (low .exit)) ⌝ }
 {
     let n = writer.len();
     let mut m: usize = 0;

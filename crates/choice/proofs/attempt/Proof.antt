@@ -5,23 +5,18 @@ use borrow.Author.Needs.{needs}
 use Rattle.choice.proofs.attempt.Statement.{statement}
 use Rattle.choice.proofs.attempt.Tie as tie
 
--- src/lib.rt:186:5
 paint-requires : tie.Need-paint-requires
 paint-requires c κs = let q = c .before .before .before .before .before .before .before .before .before .before .before .pre in (q .0 .links, (q .1 .chunk .writes, writer-fits _ (q .0) _ _ _ _ _ (q .1 .chunk)))
 
--- src/lib.rt:187:9
 lay-out-requires : tie.Need-lay-out-requires
 lay-out-requires c κs = search needs
 
--- src/lib.rt:194:9
 slice-reshare-prefix-viable : tie.Need-slice-reshare-prefix-viable
 slice-reshare-prefix-viable c = search needs
 
--- src/lib.rt:194:9
 slice-aggregate-viable : tie.Need-slice-aggregate-viable
 slice-aggregate-viable c = sym (length-take-le _ _ (c .before .before .before .lay-out .ensures .0))
 
--- src/lib.rt:188:5
 viable-requires : tie.Need-viable-requires
 viable-requires c κs =
     let q = c .before .before .before .before .before .before .before .before .before .before .before .before .before .before .before .before .before .before .before .before .before .pre in
@@ -29,19 +24,15 @@ viable-requires c κs =
     let f = c .before .before .before .before .before .before .before .before .before .paint in
     (q .0, (offered-holds _ (q .0) _ _ _ _ _ _ (q .1) (f .last .1 .1 .1 .1 .1 .1 .0) (f .ensures) (f .kept .1 .1 .1 .1 .1 .1 .0), rw (c .before .before .before .before .before .lay-out .ensures .1) (offered-turns _ (q .0) _ _ _ _ _ _ (q .1) (f .last .1 .1 .1 .1 .1 .1 .0) (f .ensures) (f .kept .1 .1 .1 .1 .1 .1 .0) (a .flip) (a .swap))))
 
--- src/lib.rt:166:1
 same-length : tie.Need-same-length
 same-length c = search needs
 
--- src/lib.rt:166:1
 same-length-2 : tie.Need-same-length-2
 same-length-2 c = search needs
 
--- src/lib.rt:166:1
 same-length-3 : tie.Need-same-length-3
 same-length-3 c = search needs
 
--- src/lib.rt:166:1
 returns : tie.Need-returns
 returns c =
     let q = c .before .before .before .before .before .before .before .before .before .before .before .before .before .before .before .before .before .before .before .before .before .before .before .before .before .before .pre in

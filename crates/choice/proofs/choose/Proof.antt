@@ -6,37 +6,30 @@ use borrow.Author.Needs.{needs}
 use Rattle.choice.proofs.choose.Statement.{statement}
 use Rattle.choice.proofs.choose.Tie as tie
 
--- src/lib.rt:335:9
 above-requires : tie.Need-above-requires
 above-requires c κs =
     let q = c .before .before .before .before .before .before .before .before .before .before .pre in
     (run-inside _ (q .0) _ _ _ _ _ (q .1 .0), (inner-inside _ (q .0) _ _ _ _ _ (q .1 .0), last-small _ (q .0) _ _ _ _ _ (q .1 .0)))
 
--- src/lib.rt:336:9
 first-requires : tie.Need-first-requires
 first-requires c κs =
     let q = c .before .before .before .before .before .before .before .before .before .before .before .before .before .before .pre in
     (q .0, chunk-offered _ (q .0) _ _ _ _ _ (q .1 .0) (q .1 .1) _ (c .before .before .before .above .ensures))
 
--- src/lib.rt:349:5
 paint-requires : tie.Need-paint-requires
 paint-requires c κs =
     let q = c .before .before .before .before .before .before .before .before .before .before .before .before .before .before .before .before .before .before .before .before .before .before .pre in
     (q .0 .links, (q .1 .0 .writes, omega (arith, writer-fits _ (q .0) _ _ _ _ _ (q .1 .0), c .before .before .before .before .before .before .before .first .kept .1 .1 .1 .1 .1 .1 .1 .1 .0)))
 
--- src/lib.rt:317:1
 same-length : tie.Need-same-length
 same-length c = search needs
 
--- src/lib.rt:317:1
 same-length-2 : tie.Need-same-length-2
 same-length-2 c = search needs
 
--- src/lib.rt:317:1
 same-length-3 : tie.Need-same-length-3
 same-length-3 c = search needs
 
--- src/lib.rt:317:1
 returns : tie.Need-returns
 returns c =
     let a = c .before .before .before .before .before .before .before .before .before .before .before .before .before .before .before .before .before .before .before .before .before .before .before .before .before .args in

@@ -4,11 +4,9 @@ use borrow.Author.Needs.{needs}
 use Rattle.chunking.proofs.cluster.Statement.{statement}
 use Rattle.chunking.proofs.cluster.Tie as tie
 
--- src/lib.rt:245:5
 dye-requires : tie.Need-dye-requires
 dye-requires c κs = search needs
 
--- src/lib.rt:246:5
 own-requires : tie.Need-own-requires
 own-requires c κs =
     let q = c .before .before .before .before .before .before .before .before .before .before .before .pre in
@@ -16,15 +14,12 @@ own-requires c κs =
     let d = c .before .before .before .before .dye in
     (q .0, (alone-ready (a .writer .now) (a .w) (a .placed .now) (d .last .1 .1 .1 .1 .1 .0) (a .order .now) (q .1 .1 .0 .0) (q .1 .0 .0) (q .1 .0 .1) (q .1 .1 .0 .2) (omega (arith, d .kept .1 .1 .1 .1 .1 .0, q .1 .1 .0 .1)) (q .1 .1 .1) (d .ensures), alone-whose (a .writer .now) (a .w) (a .placed .now) (d .last .1 .1 .1 .1 .1 .0) (a .order .now) (q .1 .1 .0 .0) (q .1 .0 .0) (q .1 .0 .1) (q .1 .1 .0 .2) (omega (arith, d .kept .1 .1 .1 .1 .1 .0, q .1 .1 .0 .1)) (q .1 .1 .1) (d .ensures)))
 
--- src/lib.rt:230:1
 same-length : tie.Need-same-length
 same-length c = search needs
 
--- src/lib.rt:230:1
 same-length-2 : tie.Need-same-length-2
 same-length-2 c = search needs
 
--- src/lib.rt:230:1
 returns : tie.Need-returns
 returns c =
     let q = c .before .before .before .before .before .before .before .before .before .before .before .before .before .before .before .before .pre in

@@ -4,38 +4,30 @@ use borrow.Author.Needs.{needs}
 use Rattle.chunking.proofs.enclose.Statement.{statement}
 use Rattle.chunking.proofs.enclose.Tie as tie
 
--- src/lib.rt:163:9
 reach-requires : tie.Need-reach-requires
 reach-requires c κs = search needs
 
--- src/lib.rt:164:37
 mul-inner : tie.Need-mul-inner
 mul-inner c = search needs
 
--- src/lib.rt:164:37
 sub-inner : tie.Need-sub-inner
 sub-inner c = search needs
 
--- src/lib.rt:164:37
 part-inner-start : tie.Need-part-inner-start
 part-inner-start c = search needs
 
--- src/lib.rt:164:37
 part-inner-end : tie.Need-part-inner-end
 part-inner-end c = search needs
 
--- src/lib.rt:164:9
 inner-requires : tie.Need-inner-requires
 inner-requires c κs =
     let q = c .before .before .before .before .before .before .before .pre in
     let r = c .before .before .reach .ensures in
     (part-inside (c .before .before .before .before .before .before .before .args .finish .now) (c .before .before .before .before .before .before .before .args .list .now) (q .0) (c .before .before .before .before .before .before .before .args .i) (c .before .before .reach .result) (r .from) (r .to), (q .1 .0, omega (arith, part-short (c .before .before .before .before .before .before .before .args .list .now) (c .before .before .before .before .before .before .before .args .i) (c .before .before .reach .result) (r .from) (r .to), q .1 .1 .0)))
 
--- src/lib.rt:147:1
 same-length : tie.Need-same-length
 same-length c = search needs
 
--- src/lib.rt:147:1
 returns : tie.Need-returns
 returns c =
     let q = c .before .before .before .before .before .before .before .before .before .before .pre in

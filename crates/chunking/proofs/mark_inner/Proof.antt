@@ -17,50 +17,40 @@ Inv-loop finish late forwards backwards list₀ marks₀ n a₀ i₀ list marks 
 abbrev μ-loop : tie.MeasureT-loop
 μ-loop finish late forwards backwards list₀ marks₀ n a₀ i₀ list marks a i = n - a
 
--- src/lib.rt:200:5
 loop-holds : tie.Need-loop-holds Inv-loop μ-loop
 loop-holds c = let q = c .before .before .before .before .before .before .pre in (inner-none _ _ _ _ _ (small-in _ _ (q .1 .1 .0)) (q .1 .1 .1), refl)
 
--- src/lib.rt:201:46
 mul-zone-of : tie.Need-mul-zone-of Inv-loop μ-loop
 mul-zone-of c = omega arith
 
--- src/lib.rt:201:46
 shared-slice-read-zone-of : tie.Need-shared-slice-read-zone-of Inv-loop μ-loop
 shared-slice-read-zone-of c = omega arith
 
--- src/lib.rt:201:13
 zone-of-requires : tie.Need-zone-of-requires Inv-loop μ-loop
 zone-of-requires c κs = let q = c .before .before .before .before .before .before .before .before .before .pre in (q .0 .forth (c .before .before .loop .a) (omega arith), q .0 .long)
 
--- src/lib.rt:202:13
 run-requires : tie.Need-run-requires Inv-loop μ-loop
 run-requires c κs = let q = c .before .before .before .before .before .before .before .before .before .before .pre in (q .0 .forth, (q .0 .long, omega arith))
 
--- src/lib.rt:204:57
 low-requires : tie.Need-low-requires Inv-loop μ-loop
 low-requires c κs = search needs
 
--- src/lib.rt:204:13
 enclose-requires : tie.Need-enclose-requires Inv-loop μ-loop
 enclose-requires c κs =
     let q = c .before .before .before .before .before .before .before .before .before .before .before .before .before .pre in
     let g = c .before .before .before .before .before .before .loop .inv in
     (q .0 .back, (q .0 .long, (omega (arith, q .1 .0, g .1), (q .0 .rises, rw (c .before .low .ensures ∙ ap (λ (z : Zone). low z) (c .before .before .before .zone-of .ensures)) (g .0 .behind (omega arith))))))
 
--- src/lib.rt:206:14
 slice-reshare-prefix-mark : tie.Need-slice-reshare-prefix-mark Inv-loop μ-loop
 slice-reshare-prefix-mark c =
     let q = c .before .before .before .before .before .before .before .before .before .before .before .before .before .before .before .before .pre in
     omega (arith, c .before .before .enclose .ensures .few, q .1 .0, c .before .before .before .before .before .before .before .before .before .loop .inv .1, c .before .before .enclose .kept .1 .1 .1 .1 .1 .1 .0)
 
--- src/lib.rt:206:14
 slice-aggregate-mark : tie.Need-slice-aggregate-mark Inv-loop μ-loop
 slice-aggregate-mark c =
     let q = c .before .before .before .before .before .before .before .before .before .before .before .before .before .before .before .before .before .pre in
     sym (length-take-le _ _ (omega (arith, c .before .before .before .enclose .ensures .few, q .1 .0, c .before .before .before .before .before .before .before .before .before .before .loop .inv .1, c .before .before .before .enclose .kept .1 .1 .1 .1 .1 .1 .0)))
 
--- src/lib.rt:206:9
 mark-requires : tie.Need-mark-requires Inv-loop μ-loop
 mark-requires c κs =
     let q = c .before .before .before .before .before .before .before .before .before .before .before .before .before .before .before .before .before .before .pre in
@@ -68,11 +58,9 @@ mark-requires c κs =
     let f = found-small _ _ _ _ (q .1 .1 .0) (c .before .before .before .before .enclose .ensures .written) in
     λ i l. omega (arith, f i l, g .0 .long)
 
--- src/lib.rt:200:5
 loop-less : tie.Need-loop-less Inv-loop μ-loop
 loop-less c = omega (arith, c .before .before .before .before .before .before .before .before .before .before .run .ensures .1, c .before .before .before .before .before .before .before .before .before .before .run .ensures .2)
 
--- src/lib.rt:200:5
 loop-again : tie.Need-loop-again Inv-loop μ-loop
 loop-again c =
     let q = c .before .before .before .before .before .before .before .before .before .before .before .before .before .before .before .before .before .before .before .before .before .pre in
@@ -82,15 +70,12 @@ loop-again c =
     let m = c .before .before .mark in
     (inner-on _ _ _ _ _ (small-in _ _ (q .1 .1 .0)) _ _ _ (g .0) (omega arith) _ (s .0) (s .1) (s .2) _ (c .before .before .before .before .before .before .before .before .before .low .ensures ∙ ap (λ (z : Zone). low z) (c .before .before .before .before .before .before .before .before .before .before .before .zone-of .ensures)) _ _ (e .ensures) _ (m .kept .1 .0) (m .ensures), e .kept .1 .1 .1 .1 .1 .1 .0 ∙ g .1)
 
--- src/lib.rt:183:1
 same-length : tie.Need-same-length Inv-loop μ-loop
 same-length c = c .before .loop .inv .1
 
--- src/lib.rt:183:1
 same-length-2 : tie.Need-same-length-2 Inv-loop μ-loop
 same-length-2 c = c .before .loop .inv .0 .long
 
--- src/lib.rt:183:1
 returns : tie.Need-returns Inv-loop μ-loop
 returns c = let q = c .before .before .before .before .before .before .before .before .pre in inner-end _ _ _ _ _ (small-in _ _ (q .1 .1 .0)) _ _ _ (c .before .loop .inv .0) (omega arith)
 

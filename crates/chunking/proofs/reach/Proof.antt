@@ -14,43 +14,33 @@ Inv-loop finish late list i top n k₀ k = Reaching finish late list i top k
 abbrev μ-loop : tie.MeasureT-loop
 μ-loop finish late list i top n k₀ k = n - k
 
--- src/lib.rt:136:5
 loop-holds : tie.Need-loop-holds Inv-loop μ-loop
 loop-holds c = reach-none _ _ _ _ _ (c .before .before .before .pre .1 .1)
 
--- src/lib.rt:137:46
 mul-zone-of : tie.Need-mul-zone-of Inv-loop μ-loop
 mul-zone-of c = omega arith
 
--- src/lib.rt:137:46
 shared-slice-read-zone-of : tie.Need-shared-slice-read-zone-of Inv-loop μ-loop
 shared-slice-read-zone-of c = omega arith
 
--- src/lib.rt:137:13
 zone-of-requires : tie.Need-zone-of-requires Inv-loop μ-loop
 zone-of-requires c κs = (c .before .before .before .before .before .before .pre .0 (c .before .before .loop .k) (omega arith), c .before .before .before .before .before .before .pre .1 .0)
 
--- src/lib.rt:138:19
 low-requires : tie.Need-low-requires Inv-loop μ-loop
 low-requires c κs = search needs
 
--- src/lib.rt:139:13
 returns : tie.Need-returns Inv-loop μ-loop
 returns c = reach-stop _ _ _ _ _ _ (c .before .before .before .before .before .loop .inv) (omega (arith, c .before .low .ensures ∙ ap (λ (z : Zone). low z) (c .before .before .zone-of .ensures)))
 
--- src/lib.rt:141:9
 add-k : tie.Need-add-k Inv-loop μ-loop
 add-k c = omega arith
 
--- src/lib.rt:136:5
 loop-less : tie.Need-loop-less Inv-loop μ-loop
 loop-less c = omega arith
 
--- src/lib.rt:136:5
 loop-again : tie.Need-loop-again Inv-loop μ-loop
 loop-again c = reach-on _ _ _ _ _ _ (c .before .before .before .before .before .loop .inv) (omega arith) (omega (arith, c .before .low .ensures ∙ ap (λ (z : Zone). low z) (c .before .before .zone-of .ensures)))
 
--- src/lib.rt:128:1
 returns-2 : tie.Need-returns-2 Inv-loop μ-loop
 returns-2 c = reach-end _ _ _ _ _ _ (c .before .loop .inv) (omega arith)
 

@@ -1,8 +1,7 @@
 use Prim.Native.Nat.{ℕ}
 use mathlib.Core.Path.{ap, _∙_}
 use borrow.Author.Tests.{eq-eqb, ne-eqb}
-use Rattle.history.specs.Answer.{refusedBy}
-use Rattle.history.proofs.Refusals.{orTest}
+use Rattle.history.specs.Answer.{refusedBy, orTest}
 use borrow.Author.Needs.{needs}
 use Rattle.conditions.proofs.or_test.Statement.{statement}
 use Rattle.conditions.proofs.or_test.Tie as tie

@@ -3,15 +3,12 @@ use borrow.Author.Needs.{needs}
 use Rattle.freeing.proofs.above.Statement.{statement}
 use Rattle.freeing.proofs.above.Tie as tie
 
--- src/lib.rt:101:9
 above-list-requires : tie.Need-above-list-requires
 above-list-requires c κs = search needs
 
--- src/lib.rt:102:5
 above-list-requires-2 : tie.Need-above-list-requires-2
 above-list-requires-2 c κs = search needs
 
--- src/lib.rt:95:1
 returns : tie.Need-returns
 returns c = above-both _ _ _ _ _ _ (c .before .above-list .ensures) (c .above-list2 .ensures)
 

@@ -10,43 +10,33 @@ Inv-loop last list top n t₀ i₀ t i = Topping last list top i t
 abbrev μ-loop : tie.MeasureT-loop
 μ-loop last list top n t₀ i₀ t i = n - i
 
--- src/lib.rt:85:5
 loop-holds : tie.Need-loop-holds Inv-loop μ-loop
 loop-holds c = top-none _ _ _
 
--- src/lib.rt:86:17
 mul-w : tie.Need-mul-w Inv-loop μ-loop
 mul-w c = omega arith
 
--- src/lib.rt:86:17
 shared-slice-read-w : tie.Need-shared-slice-read-w Inv-loop μ-loop
 shared-slice-read-w c = omega arith
 
--- src/lib.rt:87:20
 mul-read : tie.Need-mul-read Inv-loop μ-loop
 mul-read c = omega (arith, c .before .before .before .before .before .pre .0 (c .before .before .loop .i) (omega arith), c .before .before .before .before .before .pre .1)
 
--- src/lib.rt:87:20
 shared-slice-read-read : tie.Need-shared-slice-read-read Inv-loop μ-loop
 shared-slice-read-read c = c .before .before .before .before .before .before .pre .0 (c .before .before .before .loop .i) (omega arith)
 
--- src/lib.rt:88:9
 higher-requires : tie.Need-higher-requires Inv-loop μ-loop
 higher-requires c κs = omega (arith, c .before .before .before .before .before .before .pre .0 (c .before .before .before .loop .i) (omega arith), c .before .before .before .before .before .before .pre .1)
 
--- src/lib.rt:89:9
 add-i : tie.Need-add-i Inv-loop μ-loop
 add-i c = omega arith
 
--- src/lib.rt:85:5
 loop-less : tie.Need-loop-less Inv-loop μ-loop
 loop-less c = omega arith
 
--- src/lib.rt:85:5
 loop-again : tie.Need-loop-again Inv-loop μ-loop
 loop-again c = top-on _ _ _ _ _ (c .before .before .before .before .loop .inv) (omega arith) _ (c .higher .ensures)
 
--- src/lib.rt:77:1
 returns : tie.Need-returns Inv-loop μ-loop
 returns c = top-end _ _ _ _ _ (c .before .loop .inv) (omega arith)
 

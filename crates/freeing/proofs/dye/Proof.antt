@@ -11,51 +11,39 @@ Inv-loop writer last prev w mark placed₀ k₀ placed k = Dyeing writer w mark 
 abbrev μ-loop : tie.MeasureT-loop
 μ-loop writer last prev w mark placed₀ k₀ placed k = k
 
--- src/lib.rt:16:17
 mul-k : tie.Need-mul-k Inv-loop μ-loop
 mul-k c = omega arith
 
--- src/lib.rt:16:17
 shared-slice-read-k : tie.Need-shared-slice-read-k Inv-loop μ-loop
 shared-slice-read-k c = omega (arith, c .before .pre .0 .lasting)
 
--- src/lib.rt:17:5
 loop-holds : tie.Need-loop-holds Inv-loop μ-loop
 loop-holds c = let q = c .before .pre in dye-none _ _ _ _ (q .0) (q .1 .0 .0) (q .1 .0 .1) _ _
 
--- src/lib.rt:18:17
 sub-i : tie.Need-sub-i Inv-loop μ-loop
 sub-i c = omega arith
 
--- src/lib.rt:19:9
 slice-write-placed : tie.Need-slice-write-placed Inv-loop μ-loop
 slice-write-placed c = omega (arith, c .before .loop .inv .within, c .before .loop .inv .long, c .before .before .before .pre .1 .1)
 
--- src/lib.rt:20:13
 mul-k-2 : tie.Need-mul-k-2 Inv-loop μ-loop
 mul-k-2 c = omega arith
 
--- src/lib.rt:20:13
 shared-slice-read-k-2 : tie.Need-shared-slice-read-k-2 Inv-loop μ-loop
 shared-slice-read-k-2 c = omega (arith, c .before .before .loop .inv .within, c .before .before .before .before .pre .0 .previous)
 
--- src/lib.rt:17:5
 loop-less : tie.Need-loop-less Inv-loop μ-loop
 loop-less c = let q = c .before .before .before .before .pre in dye-falls _ _ _ _ (q .0) (q .1 .0 .0) (q .1 .0 .1) _ _ (q .1 .1) _ _ (c .before .before .loop .inv) (omega arith)
 
--- src/lib.rt:17:5
 loop-again : tie.Need-loop-again Inv-loop μ-loop
 loop-again c = let q = c .before .before .before .before .pre in dye-on _ _ _ _ (q .0) (q .1 .0 .0) (q .1 .0 .1) _ _ (q .1 .1) _ _ (c .before .before .loop .inv) (omega arith)
 
--- src/lib.rt:22:5
 slice-write-placed-2 : tie.Need-slice-write-placed-2 Inv-loop μ-loop
 slice-write-placed-2 c = omega (arith, c .before .loop .inv .long, c .before .before .before .pre .1 .1, c .before .before .before .pre .1 .0 .0)
 
--- src/lib.rt:10:1
 same-length : tie.Need-same-length Inv-loop μ-loop
 same-length c = length-set (c .before .loop .placed) (c .before .before .before .args .w) (c .before .before .before .args .mark) ∙ c .before .loop .inv .long
 
--- src/lib.rt:10:1
 returns : tie.Need-returns Inv-loop μ-loop
 returns c = let q = c .before .before .before .pre in dye-end _ _ _ _ (q .0) (q .1 .0 .0) (q .1 .0 .1) _ _ (q .1 .1) _ _ (c .before .loop .inv) (omega arith)
 

@@ -5,21 +5,17 @@ use borrow.Author.Needs.{needs}
 use Rattle.freeing.proofs.paint.Statement.{statement}
 use Rattle.freeing.proofs.paint.Tie as tie
 
--- src/lib.rt:63:5
 paint-list-requires : tie.Need-paint-list-requires
 paint-list-requires c κs = let q = c .before .before .before .before .before .before .before .pre in (q .0, ((λ w m. q .1 .0 w (Memᴰ·append-left _ m)), q .1 .1))
 
--- src/lib.rt:64:5
 paint-list-requires-2 : tie.Need-paint-list-requires-2
 paint-list-requires-2 c κs =
     let q = c .before .before .before .before .before .before .before .before .before .before .before .pre in
     (q .0, ((λ w m. q .1 .0 w (Memᴰ·append-right (c .before .before .before .before .before .before .before .before .before .before .before .args .run .now) m)), omega (arith, q .1 .1, c .before .before .before .paint-list .kept .1 .1 .1 .1 .1 .0)))
 
--- src/lib.rt:49:1
 same-length : tie.Need-same-length
 same-length c = search needs
 
--- src/lib.rt:49:1
 returns : tie.Need-returns
 returns c =
     let a = c .before .before .before .before .before .before .before .before .before .before .before .before .before .before .args in

@@ -11,42 +11,33 @@ Inv-loop writer last prev list mark placed₀ n i₀ placed i = Painting writer 
 abbrev μ-loop : tie.MeasureT-loop
 μ-loop writer last prev list mark placed₀ n i₀ placed i = n - i
 
--- src/lib.rt:41:5
 loop-holds : tie.Need-loop-holds Inv-loop μ-loop
 loop-holds c = paint-none _ _ _ _
 
--- src/lib.rt:42:17
 mul-w : tie.Need-mul-w Inv-loop μ-loop
 mul-w c = omega arith
 
--- src/lib.rt:42:17
 shared-slice-read-w : tie.Need-shared-slice-read-w Inv-loop μ-loop
 shared-slice-read-w c = omega arith
 
--- src/lib.rt:43:9
 add-i : tie.Need-add-i Inv-loop μ-loop
 add-i c = omega arith
 
--- src/lib.rt:44:9
 dye-requires : tie.Need-dye-requires Inv-loop μ-loop
 dye-requires c κs =
     let q = c .before .before .before .before .before .before .before .before .before .pre in
     let i = c .before .before .before .loop .inv in
     (q .0, (q .1 .0 _ (getD-in _ 0 (c .before .before .before .loop .i) (omega arith)), omega (arith, q .1 .1, i .long)))
 
--- src/lib.rt:41:5
 loop-less : tie.Need-loop-less Inv-loop μ-loop
 loop-less c = omega arith
 
--- src/lib.rt:41:5
 loop-again : tie.Need-loop-again Inv-loop μ-loop
 loop-again c = paint-on _ _ _ _ _ _ (c .before .before .before .before .before .before .loop .inv) (omega arith) _ (c .before .before .dye .kept .1 .1 .1 .1 .1 .0) (c .before .before .dye .ensures)
 
--- src/lib.rt:26:1
 same-length : tie.Need-same-length Inv-loop μ-loop
 same-length c = c .before .loop .inv .long
 
--- src/lib.rt:26:1
 returns : tie.Need-returns Inv-loop μ-loop
 returns c = paint-end _ _ _ _ _ _ (c .before .loop .inv) (omega arith)
 

@@ -11,15 +11,12 @@ use borrow.Author.Needs.{needs}
 use Rattle.joining.proofs.chunk.Statement.{statement}
 use Rattle.joining.proofs.chunk.Tie as tie
 
--- src/lib.rt:74:40
 shared-slice-read-low-end : tie.Need-shared-slice-read-low-end
 shared-slice-read-low-end c = search needs
 
--- src/lib.rt:74:9
 low-end-requires : tie.Need-low-end-requires
 low-end-requires c κs = let q = c .before .before .before .before .before .before .before .before .before .before .before .before .before .pre in (run-inside _ (q .0) _ (q .1 .1 .0) _ (q .1 .1 .1 .0), late-long _ (q .0) _ (q .1 .1 .0))
 
--- src/lib.rt:75:9
 enclose-requires : tie.Need-enclose-requires
 enclose-requires c κs =
     let q = c .before .before .before .before .before .before .before .before .before .before .before .before .before .before .before .pre in
@@ -27,15 +24,12 @@ enclose-requires c κs =
     let y = q .1 .1 .1 .1 .0 in
     (rw y (sides-inside _ (q .0) _ (q .1 .1 .0) false), (late-long _ (q .0) _ (q .1 .1 .0), (omega (arith, ap length y, sides-few _ (q .0) _ (q .1 .1 .0), q .1 .0, q .1 .1 .1 .1 .1 .1 .0 .inner), (rw y (side-rises (a .finish .now) (a .late .now) (a .writer .now) false), rw (c .before .low-end .ensures) (q .1 .1 .1 .1 .1 .0)))))
 
--- src/lib.rt:84:9
 slice-reshare-prefix-choose : tie.Need-slice-reshare-prefix-choose
 slice-reshare-prefix-choose c = let q = c .before .before .before .before .before .before .before .before .before .before .before .before .before .before .before .before .before .before .pre in omega (arith, c .before .before .enclose .ensures .few, ap length (q .1 .1 .1 .1 .0), sides-few _ (q .0) _ (q .1 .1 .0), q .1 .0, c .before .before .enclose .kept .1 .1 .1 .1 .1 .1 .0, q .1 .1 .1 .1 .1 .1 .0 .inner)
 
--- src/lib.rt:84:9
 slice-aggregate-choose : tie.Need-slice-aggregate-choose
 slice-aggregate-choose c = let q = c .before .before .before .before .before .before .before .before .before .before .before .before .before .before .before .before .before .before .before .pre in sym (length-take-le _ _ (omega (arith, c .before .before .before .enclose .ensures .few, ap length (q .1 .1 .1 .1 .0), sides-few _ (q .0) _ (q .1 .1 .0), q .1 .0, c .before .before .before .enclose .kept .1 .1 .1 .1 .1 .1 .0, q .1 .1 .1 .1 .1 .1 .0 .inner)))
 
--- src/lib.rt:77:9
 choose-requires : tie.Need-choose-requires
 choose-requires c κs =
     let q = c .before .before .before .before .before .before .before .before .before .before .before .before .before .before .before .before .before .before .before .before .before .before .pre in
@@ -43,23 +37,18 @@ choose-requires c κs =
     let i = c .before .before .before .before .before .before .enclose .ensures .written ∙ ap (keep (lies _ _ _ _)) (q .1 .1 .1 .1 .0) in
     (q .0, (rw i (chunk-choice _ (q .0) (q .1 .0) _ (q .1 .1 .0) _ (q .1 .1 .1 .0) _ (a .top) (c .before .before .before .before .before .before .before .before .low-end .ensures) _ _ _ _ (q .1 .1 .1 .1 .1 .1 .0)), q .1 .1 .1 .1 .1 .1 .1))
 
--- src/lib.rt:46:1
 same-length : tie.Need-same-length
 same-length c = search needs
 
--- src/lib.rt:46:1
 same-length-2 : tie.Need-same-length-2
 same-length-2 c = search needs
 
--- src/lib.rt:46:1
 same-length-3 : tie.Need-same-length-3
 same-length-3 c = search needs
 
--- src/lib.rt:46:1
 same-length-4 : tie.Need-same-length-4
 same-length-4 c = search needs
 
--- src/lib.rt:46:1
 returns : tie.Need-returns
 returns c =
     let q = c .before .before .before .before .before .before .before .before .before .before .before .before .before .before .before .before .before .before .before .before .before .before .before .before .before .before .before .before .before .pre in

@@ -10,11 +10,9 @@ use borrow.Author.Needs.{needs}
 use Rattle.joining.proofs.item.Statement.{statement}
 use Rattle.joining.proofs.item.Tie as tie
 
--- src/lib.rt:176:8
 chunk-first-requires : tie.Need-chunk-first-requires
 chunk-first-requires c κs = let q = c .before .before .before .before .before .before .before .before .before .before .before .before .pre in (rw (q .1 .1 .1 .0) (sides-inside _ (q .0) _ (q .1 .1 .0) true), (rw (q .1 .1 .1 .1 .0) (sides-inside _ (q .0) _ (q .1 .1 .0) false), late-long _ (q .0) _ (q .1 .1 .0)))
 
--- src/lib.rt:177:13
 run-requires : tie.Need-run-requires
 run-requires c κs =
     let q = c .before .before .before .before .before .before .before .before .before .before .before .before .before .before .pre in
@@ -25,23 +23,18 @@ run-requires c κs =
     let e = rw (x, y) at (sym (c .before .chunk-first .ensures) ∙ c .if1 .taken) in
     (rw x (sides-inside _ (q .0) _ (q .1 .1 .0) true), (late-long _ (q .0) _ (q .1 .1 .0), rw x (chunk-there _ (q .0) _ (q .1 .1 .0) _ _ d e)))
 
--- src/lib.rt:187:13
 mul-chunk : tie.Need-mul-chunk
 mul-chunk c = let q = c .before .before .before .before .before .before .before .before .before .before .before .before .before .before .before .pre in omega (arith, c .run .ensures .1, c .run .ensures .2, ap length (q .1 .1 .1 .0), sides-few _ (q .0) _ (q .1 .1 .0), q .1 .0)
 
--- src/lib.rt:187:13
 sub-chunk : tie.Need-sub-chunk
 sub-chunk c = search needs
 
--- src/lib.rt:187:13
 part-chunk-start : tie.Need-part-chunk-start
 part-chunk-start c = search needs
 
--- src/lib.rt:187:13
 part-chunk-end : tie.Need-part-chunk-end
 part-chunk-end c = search needs
 
--- src/lib.rt:180:13
 chunk-requires : tie.Need-chunk-requires
 chunk-requires c κs =
     let q = c .before .before .before .before .before .before .before .before .before .before .before .before .before .before .before .before .before .before .before .before .pre in
@@ -54,23 +47,18 @@ chunk-requires c κs =
     let o = rw (x, y) at (q .1 .1 .1 .1 .1 .1 .0) in
     (q .0, (q .1 .0, (q .1 .1 .0, (rw x (next-cut _ (q .0) _ (q .1 .1 .0) _ _ d _ (s .0) (s .1) (s .2)), (y, (rw (x, y) (rw (run-first _ (q .0) _ (q .1 .1 .0) _ _ d _ (s .0) (s .1) (s .2)) (o .behind (chunk-there _ (q .0) _ (q .1 .1 .0) _ _ d e))), (q .1 .1 .1 .1 .1 .1 .1, q .1 .1 .1 .1 .1 .1 .0 .shut)))))))
 
--- src/lib.rt:196:9
 same-length : tie.Need-same-length
 same-length c = search needs
 
--- src/lib.rt:196:9
 same-length-2 : tie.Need-same-length-2
 same-length-2 c = search needs
 
--- src/lib.rt:196:9
 same-length-3 : tie.Need-same-length-3
 same-length-3 c = search needs
 
--- src/lib.rt:196:9
 same-length-4 : tie.Need-same-length-4
 same-length-4 c = search needs
 
--- src/lib.rt:196:9
 returns : tie.Need-returns
 returns c =
     let q = c .before .before .before .before .before .before .before .before .before .before .before .before .before .before .before .before .before .before .before .before .before .before .before .before .before .before .before .before .before .pre in
@@ -84,11 +72,9 @@ returns c =
     let n = rw (run-first _ (q .0) _ (q .1 .1 .0) _ _ d _ (s .0) (s .1) (s .2)) at (rw (x, y) at (o .ensures .1 .1)) in
     (rw (x, y) (next-chunk _ (q .0) _ (q .1 .1 .0) _ _ d _ (s .0) (s .1) (s .2) (rw y at (w .back)) e _ _ _ (rw x at (o .ensures .0)) _), rw (x, y) (record { shut = o .ensures .1 .0; behind = run-behind _ (q .0) _ (q .1 .1 .0) _ _ d _ (s .0) (s .1) (s .2) _ n }))
 
--- src/lib.rt:204:52
 mul-cluster : tie.Need-mul-cluster
 mul-cluster c = search needs
 
--- src/lib.rt:204:52
 shared-slice-read-cluster : tie.Need-shared-slice-read-cluster
 shared-slice-read-cluster c =
     let q = c .before .before .before .before .before .before .before .before .before .before .before .before .before .before .before .pre in
@@ -99,7 +85,6 @@ shared-slice-read-cluster c =
     let e = rw (x, y) at (sym (c .before .before .chunk-first .ensures) ∙ c .before .if1 .left) in
     omega (arith, ap length y, cluster-there _ (q .0) _ (q .1 .1 .0) _ _ d (rw (x, y) at (w .some)) e)
 
--- src/lib.rt:204:9
 cluster-requires : tie.Need-cluster-requires
 cluster-requires c κs =
     let q = c .before .before .before .before .before .before .before .before .before .before .before .before .before .before .before .before .before .pre in
@@ -112,7 +97,6 @@ cluster-requires c κs =
     let l = q .1 .1 .1 .1 .1 .1 .1 in
     (q .0 .links, (rw y (rw (q .0 .shape .long) (k .0), k .1), ((rw (q .0 .shape .long) (q .1 .0), rw (q .0 .shape .long) (l .marks), rw (q .0 .shape .long) (l .cells)), q .1 .1 .1 .1 .1 .1 .0 .shut)))
 
--- src/lib.rt:209:19
 add-t35 : tie.Need-add-t35
 add-t35 c =
     let q = c .before .before .before .before .before .before .before .before .before .before .before .before .before .before .before .before .before .before .before .before .before .before .pre in
@@ -123,15 +107,12 @@ add-t35 c =
     let e = rw (x, y) at (sym (c .before .before .before .before .before .before .before .before .before .chunk-first .ensures) ∙ c .before .before .before .before .before .before .before .before .if1 .left) in
     omega (arith, cluster-there _ (q .0) _ (q .1 .1 .0) _ _ d (rw (x, y) at (w .some)) e, sides-few _ (q .0) _ (q .1 .1 .0), q .1 .0)
 
--- src/lib.rt:148:1
 same-length-5 : tie.Need-same-length-5
 same-length-5 c = search needs
 
--- src/lib.rt:148:1
 same-length-6 : tie.Need-same-length-6
 same-length-6 c = search needs
 
--- src/lib.rt:148:1
 returns-2 : tie.Need-returns-2
 returns-2 c =
     let q = c .before .before .before .before .before .before .before .before .before .before .before .before .before .before .before .before .before .before .before .before .before .before .pre in

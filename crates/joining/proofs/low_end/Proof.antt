@@ -5,15 +5,12 @@ use borrow.Author.Needs.{needs}
 use Rattle.joining.proofs.low_end.Statement.{statement}
 use Rattle.joining.proofs.low_end.Tie as tie
 
--- src/lib.rt:33:5
 zone-of-requires : tie.Need-zone-of-requires
 zone-of-requires c κs = search needs
 
--- src/lib.rt:33:5
 low-requires : tie.Need-low-requires
 low-requires c κs = search needs
 
--- src/lib.rt:28:1
 returns : tie.Need-returns
 returns c = c .low .ensures ∙ ap (λ (z : Zone). low z) (c .before .zone-of .ensures)
 

@@ -2,8 +2,7 @@ use Prim.Native.Nat.{ℕ}
 use mathlib.Core.Path.{ap, _∙_}
 use borrow.Author.Tests.{eq-eqb, ne-eqb}
 use borrow.Author.Needs.{needs}
-use Rattle.history.specs.Answer.{refusedBy}
-use Rattle.history.proofs.Refusals.{orTest}
+use Rattle.history.specs.Answer.{refusedBy, orTest}
 use Rattle.orders.proofs.or_fault.Statement.{statement}
 use Rattle.orders.proofs.or_fault.Tie as tie
 

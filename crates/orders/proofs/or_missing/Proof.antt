@@ -4,9 +4,9 @@ use native.Mathlib.Omega.{arith}
 use borrow.Author.Tests.{eq-eqb, ne-eqb, lt-ltb, le-ltb}
 use borrow.Author.Needs.{needs}
 use lib.ListN.{length}
+use Rattle.history.specs.Answer.{orTest}
 use Rattle.history.specs.Table.{rowsOf}
 use Rattle.history.proofs.Rows.{history-count}
-use Rattle.history.proofs.Refusals.{orTest}
 use Rattle.atomicity.specs.Check.{missing}
 use Rattle.orders.proofs.or_missing.Statement.{statement}
 use Rattle.orders.proofs.or_missing.Tie as tie

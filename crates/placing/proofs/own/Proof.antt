@@ -13,116 +13,94 @@ Inv-loop writer last prev placed₀ order₀ at w a₀ k₀ placed order a k = L
 abbrev μ-loop : tie.MeasureT-loop
 μ-loop writer last prev placed₀ order₀ at w a₀ k₀ placed order a k = k
 
--- src/lib.rt:134:17
 mul-k : tie.Need-mul-k Inv-loop μ-loop
 mul-k c = omega arith
 
--- src/lib.rt:134:17
 shared-slice-read-k : tie.Need-shared-slice-read-k Inv-loop μ-loop
 shared-slice-read-k c = omega arith
 
--- src/lib.rt:135:5
 loop-holds : tie.Need-loop-holds Inv-loop μ-loop
 loop-holds c =
     let q = c .before .pre in
     link-none _ _ _ _ (q .0) _ (q .1 .0) (q .1 .1)
 
--- src/lib.rt:136:17
 sub-i : tie.Need-sub-i Inv-loop μ-loop
 sub-i c = omega arith
 
--- src/lib.rt:137:13
 mul-k-2 : tie.Need-mul-k-2 Inv-loop μ-loop
 mul-k-2 c = omega arith
 
--- src/lib.rt:137:13
 shared-slice-read-k-2 : tie.Need-shared-slice-read-k-2 Inv-loop μ-loop
 shared-slice-read-k-2 c = omega arith
 
--- src/lib.rt:138:12
 slice-read-if1 : tie.Need-slice-read-if1 Inv-loop μ-loop
 slice-read-if1 c = omega arith
 
--- src/lib.rt:139:13
 slice-write-placed : tie.Need-slice-write-placed Inv-loop μ-loop
 slice-write-placed c = omega arith
 
--- src/lib.rt:140:13
 sub-a : tie.Need-sub-a Inv-loop μ-loop
 sub-a c =
     let q = c .before .before .before .before .before .before .pre in
     let l = c .before .before .before .before .loop in
     link-room _ _ _ _ (q .0) _ (q .1 .0) (q .1 .1) _ _ (omega arith) (l .inv) (omega arith)
 
--- src/lib.rt:141:13
 mul-order : tie.Need-mul-order Inv-loop μ-loop
 mul-order c = omega arith
 
--- src/lib.rt:141:13
 slice-write-order : tie.Need-slice-write-order Inv-loop μ-loop
 slice-write-order c =
     let q = c .before .before .before .before .before .before .pre in
     let l = c .before .before .before .before .loop in
     omega (arith, l .inv .moved .high, l .inv .moved .cells, link-room _ _ _ _ (q .0) _ (q .1 .0) (q .1 .1) _ _ (omega arith) (l .inv) (omega arith))
 
--- src/lib.rt:135:5
 loop-less : tie.Need-loop-less Inv-loop μ-loop
 loop-less c =
     let q = c .before .before .before .before .before .before .pre in
     let l = c .before .before .before .before .loop in
     link-falls _ _ _ _ (q .0) _ (q .1 .0) (q .1 .1) _ _ (omega arith) (l .inv)
 
--- src/lib.rt:135:5
 loop-again : tie.Need-loop-again Inv-loop μ-loop
 loop-again c =
     let q = c .before .before .before .before .before .before .pre in
     let l = c .before .before .before .before .loop in
     link-push _ _ _ _ (q .0) _ (q .1 .0) (q .1 .1) _ _ (omega arith) (l .inv) (omega arith)
 
--- src/lib.rt:135:5
 loop-less-2 : tie.Need-loop-less-2 Inv-loop μ-loop
 loop-less-2 c =
     let q = c .before .before .before .before .before .before .pre in
     let l = c .before .before .before .before .loop in
     link-falls _ _ _ _ (q .0) _ (q .1 .0) (q .1 .1) _ _ (omega arith) (l .inv)
 
--- src/lib.rt:135:5
 loop-again-2 : tie.Need-loop-again-2 Inv-loop μ-loop
 loop-again-2 c =
     let q = c .before .before .before .before .before .before .pre in
     let l = c .before .before .before .before .loop in
     link-skip _ _ _ _ (q .0) _ (q .1 .0) (q .1 .1) _ _ (omega arith) (l .inv) (c .if1 .left)
 
--- src/lib.rt:144:5
 slice-write-placed-2 : tie.Need-slice-write-placed-2 Inv-loop μ-loop
 slice-write-placed-2 c = omega arith
 
--- src/lib.rt:145:5
 sub-a-2 : tie.Need-sub-a-2 Inv-loop μ-loop
 sub-a-2 c =
     let q = c .before .before .before .pre in
     own-room _ _ _ _ (q .0) _ (q .1 .0) (q .1 .1) _ _ (omega arith) (c .before .loop .inv)
 
--- src/lib.rt:146:5
 mul-order-2 : tie.Need-mul-order-2 Inv-loop μ-loop
 mul-order-2 c = omega arith
 
--- src/lib.rt:146:5
 slice-write-order-2 : tie.Need-slice-write-order-2 Inv-loop μ-loop
 slice-write-order-2 c =
     let q = c .before .before .before .pre in
     let l = c .before .loop in
     omega (arith, l .inv .moved .high, l .inv .moved .cells, own-room _ _ _ _ (q .0) _ (q .1 .0) (q .1 .1) _ _ (omega arith) (l .inv))
 
--- src/lib.rt:119:1
 same-length : tie.Need-same-length Inv-loop μ-loop
 same-length c = length-set (c .before .loop .placed) (c .before .before .before .args .w) 1 ∙ c .before .loop .inv .moved .marks
 
--- src/lib.rt:119:1
 same-length-2 : tie.Need-same-length-2 Inv-loop μ-loop
 same-length-2 c = length-set (c .before .loop .order) (c .before .loop .a - 1) (c .before .before .before .args .w) ∙ c .before .loop .inv .moved .cells
 
--- src/lib.rt:119:1
 returns : tie.Need-returns Inv-loop μ-loop
 returns c =
     let q = c .before .before .before .pre in

@@ -5,7 +5,7 @@ use lib.Seq.{length-take-le}
 use Rattle.columns.proofs.Listed.{listed-fit}
 use Rattle.zones.proofs.Zone.{lates-zoned}
 use Rattle.zone_list.proofs.Timing.{timely}
-use Rattle.zone_list.proofs.Listing.{made-sound, writers-long, low-takes, places-long, put-takes, fill-short, fill-full}
+use Rattle.zone_list.proofs.Listing.{made-sound, writers-long, low-takes, places-long, put-takes, fill-few, fill-short, fill-full}
 use borrow.Author.Needs.{needs}
 use Rattle.zone_list.proofs.fill.Statement.{statement}
 use Rattle.zone_list.proofs.fill.Tie as tie
@@ -68,7 +68,8 @@ returns c =
     let w = c .before .before .before .before .before .before .before .before .before .before .before .before .by-low in
     let z = lates-zoned _ (made-sound g (q .0)) _ (w .ensures .1 .1) in
     let r = w .kept .1 .1 .1 .1 .1 .1 .0 ∙ q .1 .1 .1 .0 in
-    fill-full (q .0) (q .1 .0) _ z _ _ (w .ensures .0) r (w .ensures .1 .0) _ _ (omega (arith, c .before .before .before .before .before .if1 .taken)) (c .before .before .put-zones .ensures)
+    let f = fill-full (q .0) (q .1 .0) _ z _ _ (w .ensures .0) r (w .ensures .1 .0) _ _ (omega (arith, c .before .before .before .before .before .if1 .taken)) (c .before .before .put-zones .ensures) in
+    (fill-few (q .0) (q .1 .0) _ z _ _ (w .ensures .0) r (w .ensures .1 .0), (z, (w .ensures .1 .0, f)))
 
 same-length-5 : tie.Need-same-length-5
 same-length-5 c = search needs
@@ -86,7 +87,8 @@ returns-2 c =
     let w = c .before .before .before .before .before .before .before .by-low in
     let z = lates-zoned _ (made-sound g (q .0)) _ (w .ensures .1 .1) in
     let r = w .kept .1 .1 .1 .1 .1 .1 .0 ∙ q .1 .1 .1 .0 in
-    fill-short (q .0) (q .1 .0) _ z _ _ (w .ensures .0) r (w .ensures .1 .0) _ (omega (arith, c .if1 .left))
+    let f = fill-short (q .0) (q .1 .0) _ z _ _ (w .ensures .0) r (w .ensures .1 .0) (c .before .before .before .before .before .before .before .before .before .before .before .before .before .before .before .before .before .before .before .before .before .before .args .list .now) (omega (arith, c .if1 .left)) in
+    (fill-few (q .0) (q .1 .0) _ z _ _ (w .ensures .0) r (w .ensures .1 .0), (z, (w .ensures .1 .0, f)))
 
 pub fill-spec : {M : Type 1} → statement M
 fill-spec =

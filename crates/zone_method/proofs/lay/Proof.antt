@@ -11,43 +11,33 @@ Inv-loop writer last prev list placed₀ order₀ at a₀ i₀ placed order a i 
 abbrev μ-loop : tie.MeasureT-loop
 μ-loop writer last prev list placed₀ order₀ at a₀ i₀ placed order a i = i
 
--- src/lib.rt:178:5
 loop-holds : tie.Need-loop-holds Inv-loop μ-loop
 loop-holds c = lay-none _ _ _ (c .before .before .before .before .before .before .pre .1 .0) (c .before .before .before .before .before .before .pre .1 .1 .0)
 
--- src/lib.rt:179:17
 sub-j : tie.Need-sub-j Inv-loop μ-loop
 sub-j c = omega arith
 
--- src/lib.rt:180:17
 mul-w : tie.Need-mul-w Inv-loop μ-loop
 mul-w c = omega arith
 
--- src/lib.rt:180:17
 shared-slice-read-w : tie.Need-shared-slice-read-w Inv-loop μ-loop
 shared-slice-read-w c = omega (arith, c .before .before .loop .inv .within)
 
--- src/lib.rt:182:9
 own-requires : tie.Need-own-requires Inv-loop μ-loop
 own-requires c κs = let i = c .before .before .before .before .loop .inv in (c .before .before .before .before .before .before .before .before .before .before .before .pre .0, (i .ready, lay-whose _ _ _ _ _ i (omega arith)))
 
--- src/lib.rt:178:5
 loop-less : tie.Need-loop-less Inv-loop μ-loop
 loop-less c = omega arith
 
--- src/lib.rt:178:5
 loop-again : tie.Need-loop-again Inv-loop μ-loop
 loop-again c = lay-on _ _ _ _ _ (c .before .before .before .before .before .before .before .before .before .loop .inv) (omega arith) (c .before .before .before .before .before .before .before .before .before .before .before .before .before .before .before .before .pre .1 .1 .1) _ (c .before .before .before .before .own .ensures _)
 
--- src/lib.rt:161:1
 same-length : tie.Need-same-length Inv-loop μ-loop
 same-length c = c .before .loop .inv .marks
 
--- src/lib.rt:161:1
 same-length-2 : tie.Need-same-length-2 Inv-loop μ-loop
 same-length-2 c = c .before .loop .inv .cells
 
--- src/lib.rt:161:1
 returns : tie.Need-returns Inv-loop μ-loop
 returns c = lay-end _ _ _ _ _ (c .before .loop .inv) (omega arith)
 

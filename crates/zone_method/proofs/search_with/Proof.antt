@@ -20,32 +20,32 @@ decide-requires : tie.Need-decide-requires
 decide-requires c κs =
     let q = c .before .before .before .before .before .before .before .before .before .before .before .before .before .before .before .before .before .before .before .before .before .before .before .before .before .before .pre in
     let f = c .before .before .before .before .before .before .before .before .before .fill in
-    omega (arith, f .ensures .few, f .kept .1 .1 .1 .1 .1 .1 .1 .1 .1 .1 .0, q .1 .1 .1 .1 .1 .0)
+    omega (arith, f .ensures .0, f .kept .1 .1 .1 .1 .1 .1 .1 .1 .1 .1 .0, q .1 .1 .1 .1 .1 .0)
 
 slice-reshare-prefix-settle : tie.Need-slice-reshare-prefix-settle
 slice-reshare-prefix-settle c =
     let q = c .before .before .before .before .before .before .before .before .before .before .before .before .before .before .before .before .before .before .before .before .before .before .before .before .before .before .before .before .pre in
     let f = c .before .before .before .before .before .before .before .before .before .before .before .fill in
-    omega (arith, f .ensures .few, f .kept .1 .1 .1 .1 .1 .1 .1 .1 .1 .0, q .1 .1 .1 .1 .0)
+    omega (arith, f .ensures .0, f .kept .1 .1 .1 .1 .1 .1 .1 .1 .1 .0, q .1 .1 .1 .1 .0)
 
 slice-aggregate-settle : tie.Need-slice-aggregate-settle
 slice-aggregate-settle c =
     let q = c .before .before .before .before .before .before .before .before .before .before .before .before .before .before .before .before .before .before .before .before .before .before .before .before .before .before .before .before .before .pre in
     let f = c .before .before .before .before .before .before .before .before .before .before .before .before .fill in
-    sym (length-take-le (f .result) _ (omega (arith, f .ensures .few, f .kept .1 .1 .1 .1 .1 .1 .1 .1 .1 .0, q .1 .1 .1 .1 .0)))
+    sym (length-take-le (f .result) _ (omega (arith, f .ensures .0, f .kept .1 .1 .1 .1 .1 .1 .1 .1 .1 .0, q .1 .1 .1 .1 .0)))
 
 settle-requires : tie.Need-settle-requires
 settle-requires c κs =
     let q = c .before .before .before .before .before .before .before .before .before .before .before .before .before .before .before .before .before .before .before .before .before .before .before .before .before .before .before .before .before .before .before .pre in
     let f = c .before .before .before .before .before .before .before .before .before .before .before .before .before .before .fill in
     let n = made-size (q .1 .0 .1) (q .0) in
-    let d = filled-decides (q .0) (q .1 .0) (f .ensures) (omega (arith, f .ensures .few, q .1 .1 .1 .1 .1 .0)) in (
+    let d = filled-decides (q .0) (q .1 .0) (f .ensures .1 .0) (f .ensures .1 .1 .1) (omega (arith, f .ensures .0, q .1 .1 .1 .1 .1 .0)) in (
       made-sound (q .1 .0 .1) (q .0),
       (
         omega (arith, n, q .1 .1 .0),
         (
           λ H o. c .before .before .before .before .decide .ensures ∙ d H o,
-          (f .ensures .zoned, (f .ensures .writes, (omega (arith, n, q .1 .1 .1 .1 .1 .1 .0), (q .1 .1 .1 .1 .1 .1 .1 .0, omega (arith, n, f .kept .1 .1 .1 .1 .1 .1 .1 .0, q .1 .1 .1 .1 .1 .1 .1 .1))))),
+          (f .ensures .1 .0, (f .ensures .1 .1 .0, (omega (arith, n, q .1 .1 .1 .1 .1 .1 .0), (q .1 .1 .1 .1 .1 .1 .1 .0, omega (arith, n, f .kept .1 .1 .1 .1 .1 .1 .1 .0, q .1 .1 .1 .1 .1 .1 .1 .1))))),
         ),
       ),
     )

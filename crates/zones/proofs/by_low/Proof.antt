@@ -20,7 +20,7 @@ slice-relend-prefix-sort-by : tie.Need-slice-relend-prefix-sort-by
 slice-relend-prefix-sort-by c = search needs
 
 slice-aggregate-sort-by : tie.Need-slice-aggregate-sort-by
-slice-aggregate-sort-by c = let l = c .before .before .before .before .before .before .before .before .low-ends in sym (length-take-le (l .result) _ (omega (arith, l .ensures .few, l .kept .1 .1 .1 .1 .1 .1 .0, c .before .before .before .before .before .before .before .before .before .before .before .before .before .before .before .before .before .before .before .pre .1 .1 .1 .1)))
+slice-aggregate-sort-by c = let l = c .before .before .before .before .before .before .before .before .low-ends in sym (length-take-le (l .result) _ (omega (arith, l .ensures .0, l .kept .1 .1 .1 .1 .1 .1 .0, c .before .before .before .before .before .before .before .before .before .before .before .before .before .before .before .before .before .before .before .pre .1 .1 .1 .1)))
 
 sort-by-requires : tie.Need-sort-by-requires
 sort-by-requires c κs = search needs
@@ -38,13 +38,13 @@ returns : tie.Need-returns
 returns c =
     let l = c .before .before .before .before .before .before .before .before .before .before .before .low-ends in
     let s = c .before .before .sort-by in (
-      l .ensures .few,
+      l .ensures .0,
       (
-        take-at _ _ (l .result) (s .kept .1 .0 ∙ length-take-le (l .result) _ (omega (arith, l .ensures .few, l .kept .1 .1 .1 .1 .1 .1 .0, c .before .before .before .before .before .before .before .before .before .before .before .before .before .before .before .before .before .before .before .before .before .before .pre .1 .1 .1 .1)))
+        take-at _ _ (l .result) (s .kept .1 .0 ∙ length-take-le (l .result) _ (omega (arith, l .ensures .0, l .kept .1 .1 .1 .1 .1 .1 .0, c .before .before .before .before .before .before .before .before .before .before .before .before .before .before .before .before .before .before .before .before .before .before .pre .1 .1 .1 .1)))
             ∙ s .ensures
-            ∙ ap (sort (rises (l .last .1 .1 .1 .1 .1 .0))) (l .ensures .written)
-            ∙ sorted-by-low _ _ _ _ (l .ensures .lows),
-        l .ensures .lates,
+            ∙ ap (sort (rises (l .last .1 .1 .1 .1 .1 .0))) (l .ensures .1 .0)
+            ∙ sorted-by-low _ _ _ _ (l .ensures .1 .1 .1),
+        l .ensures .1 .1 .0,
       ),
     )
 

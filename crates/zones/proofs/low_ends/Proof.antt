@@ -92,7 +92,9 @@ same-length-3 : tie.Need-same-length-3 Inv-loop μ-loop
 same-length-3 c = c .before .loop .inv .room
 
 returns : tie.Need-returns Inv-loop μ-loop
-returns c = list-end _ _ _ _ _ _ _ _ _ _ _ (c .before .loop .inv) (omega arith) (c .before .before .before .before .before .before .before .before .before .pre .0 .writers)
+returns c =
+    let e = list-end _ _ _ _ _ _ _ _ _ _ _ (c .before .loop .inv) (omega arith) (c .before .before .before .before .before .before .before .before .before .pre .0 .writers) in
+    (e .0, (e .1, (e .2, e .3)))
 
 pub low-ends-spec : {M : Type 1} → statement M
 low-ends-spec =
