@@ -1,7 +1,7 @@
 -- The zone list (document 02, W-206): four numbers a write, in rising order of low ends by rank.
 -- Assumes nothing.
 use Prim.Native.Nat.{ℕ}
-use mathlib.Core.Bool.{Bool, false, cond}
+use mathlib.Core.Bool.{Bool, cond}
 use mathlib.Core.List.{List, [], _∷_, flatMap}
 use mathlib.Core.Path.{_≡_}
 use lib.Dec.{ltb, eqb}
