@@ -51,6 +51,14 @@ module _ (t rows keys₀ : List ℕ) where
   pub keying-end : (i : ℕ) (keys : List ℕ) → length rows ≤ i → Keying i keys → Keyed t rows keys
   keying-end i keys h g = record { keyed = λ x m. let p = in-at 0 m in rw (← p .2) (g .keyed (p .0) (omega (arith, p .1))) }
 
+-- rows that rise as they are are those of the operations by rising start
+pub in-turn : (t rows : List ℕ) → sort (λ x y. startsFirst (opAt t x) (opAt t y)) rows ≡ rows → rows ≡ rowNumbers (byStart (map (opAt t) rows))
+unfolding byStart
+in-turn t rows e = sym e ∙ sym (rows-back t (sort le rows)) ∙ ap (λ (o : List Op). rowNumbers o) (sym (sort-map (opAt t) startsFirst rows))
+  where
+    le : ℕ → ℕ → Bool
+    le x y = startsFirst (opAt t x) (opAt t y)
+
 -- the rows by these keys are those of the operations by rising start
 pub keyed-sorts : (t rows keys new : List ℕ) → Keyed t rows keys → new ≡ sort (rises keys) rows → new ≡ rowNumbers (byStart (map (opAt t) rows))
 unfolding byStart

@@ -2,6 +2,7 @@
 use history::Op;
 use history::Row;
 ghost use mathlib.Core.Path.{_≡_};
+ghost use mathlib.Core.Bool.{true};
 ghost use mathlib.Core.List.{List, map};
 ghost use Prim.Native.Nat.{ℕ, _≤_, _<_};
 ghost use lib.ListN.{length, getD, take};
@@ -49,12 +50,33 @@ pub fn sort_rows(table: &[u64], keys: &mut [u64], rows: &mut [u64])
     sorting::sort_by(keys, rows);
 }
 
+// Whether given rows stand by rising start as they are.
+fn by_start(table: &[u64], rows: &[u64]) -> bool
+    requires { ⌜ Within (now table) (now rows) ⌝ }
+    ensures { λ r. ⌜ (r ≡ true → now (rows .entry) ≡ rowNumbers (byStart (map (opAt (now (table .entry))) (now (rows .entry))))) ⌝ }
+{
+    let mut first = LARGEST;
+    let mut place = rows.len();
+    while place > 0 {
+        let start = Op::at(table, rows[place - 1] as usize).start;
+        if first < start {
+            return false;
+        }
+        first = start;
+        place -= 1;
+    }
+    true
+}
+
 // Puts given rows by rising start, those with one start in their sequence.
 pub fn put_by_start(table: &[u64], rows: &mut [u64])
     requires { ⌜ Within (now table) (now rows) ⌝ }
     requires { ⌜ rowCount (now table) ≤ largestCount ⌝ }
     ensures { λ _. ⌜ now (rows .exit) ≡ rowNumbers (byStart (map (opAt (now (table .entry))) (now (rows .entry)))) ⌝ }
 {
+    if by_start(table, rows) {
+        return;
+    }
     if table.len() / Row::COLUMNS <= FEW {
         let mut few = [0u64; FEW];
         sort_rows(table, &mut few, rows);
