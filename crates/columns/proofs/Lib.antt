@@ -5,5 +5,6 @@ pub mod Chained
 pub mod Listed
 pub mod Made
 pub mod Sorted
+pub mod Rising
 pub mod Keying
 pub mod Lent

@@ -5,7 +5,7 @@ use native.Mathlib.Omega.{arith}
 use Rattle.lists.proofs.Tests.{both}
 use Rattle.lists.proofs.Images.{getD-in}
 use Rattle.history.specs.Table.{opAt}
-use Rattle.sorting.proofs.Rising.{Rising, rising-none, rising-more}
+use Rattle.columns.proofs.Rising.{Rising, rising-none, rising-more}
 use Rattle.columns.proofs.Keying.{in-turn}
 use Rattle.columns.proofs.by_start.Statement.{statement}
 use Rattle.columns.proofs.by_start.Tie as tie
