@@ -40,16 +40,6 @@ fn starts_of(table: &[u64], rows: &[u64], keys: &mut [u64])
     }
 }
 
-// Puts given rows by rising start, those with one start in their sequence, with a place for the start of each row of the table.
-pub fn sort_rows(table: &[u64], keys: &mut [u64], rows: &mut [u64])
-    requires { ⌜ Within (now table) (now rows) ⌝ }
-    requires { ⌜ rowCount (now table) ≤ length (now keys) ⌝ }
-    ensures { λ _. ⌜ now (rows .exit) ≡ rowNumbers (byStart (map (opAt (now (table .entry))) (now (rows .entry)))) ⌝ }
-{
-    starts_of(table, rows, keys);
-    sorting::sort_by(keys, rows);
-}
-
 // Whether given rows stand by rising start as they are.
 fn by_start(table: &[u64], rows: &[u64]) -> bool
     requires { ⌜ Within (now table) (now rows) ⌝ }
@@ -68,6 +58,28 @@ fn by_start(table: &[u64], rows: &[u64]) -> bool
     true
 }
 
+// Sorts given rows by start, with a place for the start of each row of the table.
+fn sort_starts(table: &[u64], keys: &mut [u64], rows: &mut [u64])
+    requires { ⌜ Within (now table) (now rows) ⌝ }
+    requires { ⌜ rowCount (now table) ≤ length (now keys) ⌝ }
+    ensures { λ _. ⌜ now (rows .exit) ≡ rowNumbers (byStart (map (opAt (now (table .entry))) (now (rows .entry)))) ⌝ }
+{
+    starts_of(table, rows, keys);
+    sorting::sort_by(keys, rows);
+}
+
+// Puts given rows by rising start, those with one start in their sequence, with a place for the start of each row of the table.
+pub fn sort_rows(table: &[u64], keys: &mut [u64], rows: &mut [u64])
+    requires { ⌜ Within (now table) (now rows) ⌝ }
+    requires { ⌜ rowCount (now table) ≤ length (now keys) ⌝ }
+    ensures { λ _. ⌜ now (rows .exit) ≡ rowNumbers (byStart (map (opAt (now (table .entry))) (now (rows .entry)))) ⌝ }
+{
+    if by_start(table, rows) {
+        return;
+    }
+    sort_starts(table, keys, rows);
+}
+
 // Puts given rows by rising start, those with one start in their sequence.
 pub fn put_by_start(table: &[u64], rows: &mut [u64])
     requires { ⌜ Within (now table) (now rows) ⌝ }
@@ -79,16 +91,16 @@ pub fn put_by_start(table: &[u64], rows: &mut [u64])
     }
     if table.len() / Row::COLUMNS <= FEW {
         let mut few = [0u64; FEW];
-        sort_rows(table, &mut few, rows);
+        sort_starts(table, &mut few, rows);
         return;
     }
     if table.len() / Row::COLUMNS <= SOME {
         let mut some = [0u64; SOME];
-        sort_rows(table, &mut some, rows);
+        sort_starts(table, &mut some, rows);
         return;
     }
     let mut keys = [0u64; Row::LARGEST_COUNT];
-    sort_rows(table, &mut keys, rows);
+    sort_starts(table, &mut keys, rows);
 }
 
 // A write's finish after one of its reads: one below the read's, where that is lower.

@@ -12,11 +12,11 @@ same-length c = search needs
 returns : tie.Need-returns
 returns c = c .before .by-start .ensures (c .if1 .taken)
 
-slice-aggregate-sort-rows : tie.Need-slice-aggregate-sort-rows
-slice-aggregate-sort-rows c = search needs
+slice-aggregate-sort-starts : tie.Need-slice-aggregate-sort-starts
+slice-aggregate-sort-starts c = search needs
 
-sort-rows-requires : tie.Need-sort-rows-requires
-sort-rows-requires c κs = search needs
+sort-starts-requires : tie.Need-sort-starts-requires
+sort-starts-requires c κs = search needs
 
 same-length-2 : tie.Need-same-length-2
 same-length-2 c = search needs
@@ -24,11 +24,11 @@ same-length-2 c = search needs
 returns-2 : tie.Need-returns-2
 returns-2 c = search needs
 
-slice-aggregate-sort-rows-2 : tie.Need-slice-aggregate-sort-rows-2
-slice-aggregate-sort-rows-2 c = search needs
+slice-aggregate-sort-starts-2 : tie.Need-slice-aggregate-sort-starts-2
+slice-aggregate-sort-starts-2 c = search needs
 
-sort-rows-requires-2 : tie.Need-sort-rows-requires-2
-sort-rows-requires-2 c κs = search needs
+sort-starts-requires-2 : tie.Need-sort-starts-requires-2
+sort-starts-requires-2 c κs = search needs
 
 same-length-3 : tie.Need-same-length-3
 same-length-3 c = search needs
@@ -36,11 +36,11 @@ same-length-3 c = search needs
 returns-3 : tie.Need-returns-3
 returns-3 c = search needs
 
-slice-aggregate-sort-rows-3 : tie.Need-slice-aggregate-sort-rows-3
-slice-aggregate-sort-rows-3 c = search needs
+slice-aggregate-sort-starts-3 : tie.Need-slice-aggregate-sort-starts-3
+slice-aggregate-sort-starts-3 c = search needs
 
-sort-rows-requires-3 : tie.Need-sort-rows-requires-3
-sort-rows-requires-3 c κs = search needs
+sort-starts-requires-3 : tie.Need-sort-starts-requires-3
+sort-starts-requires-3 c κs = search needs
 
 same-length-4 : tie.Need-same-length-4
 same-length-4 c = search needs
@@ -55,15 +55,15 @@ put-by-start-spec =
     by-start-requires
     same-length
     returns
-    slice-aggregate-sort-rows
-    sort-rows-requires
+    slice-aggregate-sort-starts
+    sort-starts-requires
     same-length-2
     returns-2
-    slice-aggregate-sort-rows-2
-    sort-rows-requires-2
+    slice-aggregate-sort-starts-2
+    sort-starts-requires-2
     same-length-3
     returns-3
-    slice-aggregate-sort-rows-3
-    sort-rows-requires-3
+    slice-aggregate-sort-starts-3
+    sort-starts-requires-3
     same-length-4
     returns-4)
