@@ -6,7 +6,7 @@
 
 #include "valgrist.h"
 
-/* A whole 1,025th record is enough to refuse a longer file. */
+/* No record is longer than 36 bytes: so many hold a whole 1,025th one, which is enough to refuse a longer file. */
 enum { LONGEST = 1025 * 36 };
 
 static const char *word(uint64_t code)
@@ -22,6 +22,7 @@ static const char *word(uint64_t code)
     case VALGRIST_STALE: return "stale";
     case VALGRIST_CUT_RECORD: return "cut record";
     case VALGRIST_STRANGE_RECORD: return "strange record";
+    case VALGRIST_SECOND_OPENING: return "second opening";
     default: return "unknown code";
     }
 }

@@ -28,14 +28,17 @@ enum valgrist_code {
     VALGRIST_RAGGED = 1,           /* ragged: a table's length is no multiple of 5; a file gives whole rows or 16 */
     VALGRIST_OVERFULL = 2,         /* overfull: the file has a 1,025th record */
     VALGRIST_NO_SUCH_QUESTION = 3, /* no such question: it is not 1, 2 or 3 */
-    VALGRIST_BAD_KIND = 4,         /* bad kind: a row neither writes nor reads; a file gives 17 */
-    VALGRIST_BAD_SPAN = 5,         /* bad span: a start above its finish, or a finish over 2^62 - 1 */
-    VALGRIST_TWIN_WRITE = 7,       /* twin write: a value was written by an earlier row */
+    VALGRIST_BAD_KIND = 4,         /* bad kind: a row is no write, no read and no opening; a file gives 17 */
+    VALGRIST_BAD_SPAN = 5,         /* bad span: a start above its finish, or a finish over 2^62 - 1 (an opening with
+                                      another stamp than 0 too; a file has none) */
+    VALGRIST_TWIN_WRITE = 7,       /* twin write: a value was written by an earlier row; an opening is counted as a write */
     VALGRIST_ORPHAN_READ = 8,      /* orphan read: no row writes the value that was read */
     VALGRIST_EARLY_READ = 9,       /* early read: the read precedes the write of its value */
     VALGRIST_STALE = 12,           /* stale: no order of the register's rows is valid and k-atomic */
     VALGRIST_CUT_RECORD = 16,      /* cut record: the file ends inside a record */
-    VALGRIST_STRANGE_RECORD = 17   /* strange record: a length that is not 34, or a kind that is neither 1 nor 2 */
+    VALGRIST_STRANGE_RECORD = 17,  /* strange record: a length that is neither 34 nor 18, or a kind that does not go
+                                      with it: 34 with 1 (write) and 2 (read), 18 with 3 (opening) */
+    VALGRIST_SECOND_OPENING = 20   /* second opening: an earlier row of the register is an opening too */
 };
 
 /* The bytes of stack that a call takes at the most: measured on 1,024 rows by tools/stack, and not proved. */

@@ -3,9 +3,9 @@
 use crate::answer::{put, Answer, FIELDS};
 use crate::clock;
 use crate::codes::{BAD_SPAN, FRESH, SHORT_LIST, SPENT, STALE};
-use crate::file::{push_record, table_of, MOST_ROWS};
+use crate::file::{push_record, table_of, MOST_ROWS, RECORD};
 use crate::log;
-use crate::register::{Register, LAST_STAMP};
+use crate::register::{bad_span, Register, LAST_STAMP};
 use crate::screening::screened;
 use crate::table::{self, row, whole, COLUMNS};
 use crate::text;
@@ -115,12 +115,16 @@ pub fn write(table: &[u64], bytes: &mut [u8]) -> Answer {
     either(written(table).and_then(|file| put(&file, bytes, table.len() / COLUMNS)))
 }
 
-/// The file of a table.
-fn written(table: &[u64]) -> Result<Vec<u8>, Answer> {
+/// The file of a table. A span is judged where the record has no place for it.
+pub fn written(table: &[u64]) -> Result<Vec<u8>, Answer> {
     whole(table)?;
-    let mut file = Vec::new();
-    for (number, cells) in (0..).zip(table.chunks(COLUMNS)) {
-        push_record(&mut file, cells[0], &row(number, cells)?);
+    let rows = (0..).zip(table.chunks(COLUMNS)).map(|(number, cells)| row(number, cells)).collect::<Result<Vec<_>, _>>()?;
+    if let Some(row) = rows.iter().find(|row| row.opening() && bad_span(row)) {
+        return Err(Answer::refused(BAD_SPAN, u64::from(row.number)));
+    }
+    let mut file = Vec::with_capacity(rows.len() * RECORD);
+    for (cells, row) in table.chunks(COLUMNS).zip(&rows) {
+        push_record(&mut file, cells[0], row);
     }
     Ok(file)
 }

@@ -19,3 +19,7 @@ pub const CUT_RECORD: u64 = 16;
 pub const STRANGE_RECORD: u64 = 17;
 pub const HEADER_FAULT: u64 = 18;
 pub const UNREADABLE_CELL: u64 = 19;
+pub const SECOND_OPENING: u64 = 20;
+
+/// All codes lie below.
+pub const END: usize = 21;

@@ -1,17 +1,36 @@
 //! Random damage to the bytes of a file, and to those of a text.
 
-use crate::file::{push_record, Row, MOST_ROWS, RECORD};
+use crate::file::{push_record, Row, LENGTH, MOST_ROWS, OPENING_LENGTH, RECORD, WRITE};
 use crate::random::Random;
 use crate::register::LAST_STAMP;
 
+/// Where the record at a place ends by its own length, whatever that is.
+fn end(bytes: &[u8], at: usize) -> usize {
+    let length = bytes[at..].first_chunk().map_or(0, |&length| u16::from_le_bytes(length));
+    (at + 2 + usize::from(length)).min(bytes.len())
+}
+
+/// Where the records begin.
+fn records(bytes: &[u8]) -> Vec<usize> {
+    let mut records = Vec::with_capacity(bytes.len() / RECORD);
+    let mut at = 0;
+    while at < bytes.len() {
+        records.push(at);
+        at = end(bytes, at);
+    }
+    records
+}
+
 /// Where some record begins; 0 where there is none.
 fn some_record(bytes: &[u8], random: &mut Random) -> usize {
-    random.below((bytes.len() / RECORD).max(1) as u64) as usize * RECORD
+    let records = records(bytes);
+    records.get(random.below(records.len().max(1) as u64) as usize).copied().unwrap_or_default()
 }
 
 fn some_row(random: &mut Random) -> Row {
     let start = random.below(1000);
-    Row { number: 0, write: random.one_in(2), value: random.below(10), start, finish: start + 1 + random.below(1000) }
+    let kind = WRITE + random.below(3) as u16;
+    Row { number: 0, kind, value: random.below(10), start, finish: start + 1 + random.below(1000) }
 }
 
 fn set(bytes: &mut [u8], at: usize, new: &[u8]) {
@@ -27,34 +46,25 @@ pub fn damage(bytes: &mut Vec<u8>, random: &mut Random) {
     }
 }
 
+/// One change: to the end, a byte, a length, a kind, the records' sequence or count, or a number.
 fn change(bytes: &mut Vec<u8>, random: &mut Random) {
     let at = some_record(bytes, random);
-    match random.below(10) {
+    match random.below(12) {
         0 => bytes.truncate(random.below(bytes.len() as u64 + 1) as usize),
-        1 => {
-            let place = random.below(bytes.len().max(1) as u64) as usize;
-            let flipped = bytes.get(place).map_or(0, |byte| byte ^ (1 + random.below(255)) as u8);
-            set(bytes, place, &[flipped]);
-        }
+        1 => flip(bytes, random),
         2 => {
-            let length = [0, 33, 35, 36, 34 << 8, random.next() as u16][random.below(6) as usize];
+            let length = [0, 17, 19, 20, 33, 35, 36, 34 << 8, 18 << 8, random.next() as u16][random.below(10) as usize];
             set(bytes, at, &length.to_le_bytes());
         }
         3 => {
-            let kind = [0, 3, 1 << 8, 2 << 8, 257, random.next() as u16][random.below(6) as usize];
+            let kind = [0, 1, 2, 3, 4, 1 << 8, 2 << 8, 3 << 8, 257, random.next() as u16][random.below(10) as usize];
             set(bytes, at + 2, &kind.to_le_bytes());
         }
-        4 => {
-            let record: Vec<u8> = bytes.iter().skip(at).take(RECORD).copied().collect();
-            bytes.extend_from_slice(&record);
-        }
+        4 => bytes.extend_from_within(at..end(bytes, at)),
         5 => {
+            let record: Vec<u8> = bytes.drain(at..end(bytes, at)).collect();
             let other = some_record(bytes, random);
-            for byte in 0..RECORD {
-                if at.max(other) + RECORD <= bytes.len() {
-                    bytes.swap(at + byte, other + byte);
-                }
-            }
+            bytes.splice(other..other, record);
         }
         6 => {
             let mut record = Vec::with_capacity(RECORD);
@@ -63,10 +73,32 @@ fn change(bytes: &mut Vec<u8>, random: &mut Random) {
         }
         7 => pad(bytes, random),
         8 => bytes.extend((0..1 + random.below(40)).map(|_| random.next() as u8)),
+        9 => swap_length(bytes, at, random),
+        10 => bytes.truncate(at + random.below(RECORD as u64) as usize),
         _ => {
             let word = [0, 1, LAST_STAMP, LAST_STAMP + 1, u64::MAX, random.next()][random.below(6) as usize];
             set(bytes, at + 4 + 8 * random.below(4) as usize, &word.to_le_bytes());
         }
+    }
+}
+
+/// Changes a byte.
+fn flip(bytes: &mut [u8], random: &mut Random) {
+    let at = random.below(bytes.len().max(1) as u64) as usize;
+    if let Some(byte) = bytes.get_mut(at) {
+        *byte ^= (1 + random.below(255)) as u8;
+    }
+}
+
+/// Gives a record the length of the other kinds; half the time with so many bytes as that length says.
+fn swap_length(bytes: &mut Vec<u8>, at: usize, random: &mut Random) {
+    let end = end(bytes, at);
+    let length = if end - at < RECORD { LENGTH } else { OPENING_LENGTH };
+    set(bytes, at, &length.to_le_bytes());
+    if random.one_in(2) {
+        let mut record = bytes[at..end].to_vec();
+        record.resize(2 + usize::from(length), 0);
+        bytes.splice(at..end, record);
     }
 }
 
@@ -77,7 +109,7 @@ fn pad(bytes: &mut Vec<u8>, random: &mut Random) {
     }
     let count = MOST_ROWS - 1 + random.below(3) as usize;
     let register = random.next();
-    while bytes.len() / RECORD < count {
+    for _ in records(bytes).len()..count {
         push_record(bytes, register, &some_row(random));
     }
 }
@@ -85,7 +117,7 @@ fn pad(bytes: &mut Vec<u8>, random: &mut Random) {
 /// One change to a text: a byte left out, put in or another, the end cut off, or the last byte.
 pub fn damage_text(text: &mut Vec<u8>, random: &mut Random) {
     let at = random.below(text.len().max(1) as u64) as usize;
-    let byte = [b',', b'\n', b'\r', b' ', b'0', b'w', b':', b'.', b'/', random.next() as u8][random.below(10) as usize];
+    let byte = [b',', b'\n', b'\r', b' ', b'0', b'w', b'o', b':', b'.', b'/', random.next() as u8][random.below(11) as usize];
     match random.below(5) {
         0 => text.truncate(at),
         1 => text.insert(at, byte),

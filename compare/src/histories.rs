@@ -1,12 +1,12 @@
 //! Histories: random ones of many shapes, and the families of the benchmark. Stamps are made as ranks, 1 and up, and spread or coarsened afterwards.
 
-use crate::file::{push_record, Row};
+use crate::file::{push_record, Row, OPENING, READ, WRITE};
 use crate::random::Random;
 use crate::register::LAST_STAMP;
 
 /// An operation before its stamps are made ranks: the middle bits order the times, the lower ones part equal times.
 fn row(write: bool, value: u64, start: u64, finish: u64) -> Row {
-    Row { number: 0, write, value, start, finish }
+    Row { number: 0, kind: if write { WRITE } else { READ }, value, start, finish }
 }
 
 /// The rows numbered in sequence.
@@ -91,12 +91,12 @@ pub fn scattered(count: usize, writes: u64, random: &mut Random) -> Vec<Row> {
     let mut last = 0;
     for at in 0..count {
         let known: Vec<u64> =
-            rows[..at].iter().filter(|earlier| earlier.write && earlier.start < rows[at].finish).map(|earlier| earlier.value).collect();
+            rows[..at].iter().filter(|earlier| earlier.write() && earlier.start < rows[at].finish).map(|earlier| earlier.value).collect();
         if known.is_empty() || random.one_in(writes) {
             last += 1;
             rows[at].value = last;
         } else {
-            rows[at].write = false;
+            rows[at].kind = READ;
             rows[at].value = known[random.below(known.len() as u64) as usize];
         }
     }
@@ -209,6 +209,19 @@ pub fn stale_at(end: bool, count: usize, random: &mut Random) -> Vec<Row> {
         rows.push(row(write, value, base + 10 * at, base + 10 * at + 5));
     }
     rank(&mut rows, random);
+    rows
+}
+
+/// Makes the write that begins first an opening; its place, where there is a write.
+pub fn open(rows: &mut [Row]) -> Option<usize> {
+    let first = (0..rows.len()).filter(|&at| rows[at].kind == WRITE).min_by_key(|&at| rows[at].start)?;
+    rows[first] = Row { kind: OPENING, start: 0, finish: 0, ..rows[first] };
+    Some(first)
+}
+
+/// The rows with their first write as the opening.
+pub fn opened(mut rows: Vec<Row>) -> Vec<Row> {
+    open(&mut rows);
     rows
 }
 

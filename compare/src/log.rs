@@ -3,7 +3,7 @@
 use crate::answer::Answer;
 use crate::clock;
 use crate::codes::{HEADER_FAULT, OVERFULL, UNREADABLE_CELL};
-use crate::file::{MOST_ROWS, READ, WRITE};
+use crate::file::{MOST_ROWS, OPENING, READ, WRITE};
 use crate::table::COLUMNS;
 
 /// The needed names, in the sequence of a row's numbers.
@@ -35,6 +35,7 @@ fn kind(cell: &[u8]) -> Option<u64> {
     match cell {
         b"w" => Some(u64::from(WRITE)),
         b"r" => Some(u64::from(READ)),
+        b"o" => Some(u64::from(OPENING)),
         _ => None,
     }
 }

@@ -3,7 +3,7 @@
 use crate::clock::text_of;
 use crate::clocks;
 use crate::damage::damage_text;
-use crate::file::MOST_ROWS;
+use crate::file::{MOST_ROWS, WRITE};
 use crate::log::{FINISH, KIND, NAMES, START};
 use crate::random::Random;
 use crate::register::LAST_STAMP;
@@ -48,7 +48,8 @@ fn bad_cell(random: &mut Random) -> Vec<u8> {
         0 => (u128::from(u64::MAX - 1) + u128::from(random.below(4))).to_string().into_bytes(),
         1 => (u128::from(random.next()) * 11).to_string().into_bytes(),
         2 => clocks::text(random),
-        _ => one_of(&[b"", b"W", b"R", b"o", b"w ", b"wr", b"1", b"-1", b"+1", b" 1", b"1 ", b"1.0", b"0x1", b"1\r", b"/", b":"], random).to_vec(),
+        _ => one_of(&[b"", b"W", b"R", b"O", b"w ", b"ow", b"wr", b"1", b"-1", b"+1", b" 1", b"1 ", b"1.0", b"0x1", b"1\r", b"/", b":"], random)
+            .to_vec(),
     }
 }
 
@@ -66,7 +67,7 @@ fn grid(random: &mut Random) -> Grid {
         let numbers = [register, 0, row.value, row.start, row.finish];
         let mut cell = |column: &Option<usize>| match *column {
             None => other_cell(random),
-            Some(KIND) => [if row.write { b'w' } else { b'r' }].to_vec(),
+            Some(KIND) => vec![b"wro"[usize::from(row.kind - WRITE)]],
             Some(stamp @ (START | FINISH)) if clock => either_form(numbers[stamp], random),
             Some(number) => decimal(numbers[number], random),
         };

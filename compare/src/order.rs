@@ -37,20 +37,21 @@ fn listed<'a>(rows: &'a [Row], list: &[u64]) -> Result<Vec<&'a Row>, usize> {
     Ok(listed)
 }
 
-/// The first that precedes one listed earlier.
+/// The first that precedes one listed earlier; an opening precedes every other.
 fn late(listed: &[&Row]) -> Option<usize> {
     let mut latest = 0;
-    listed.iter().position(|row| {
+    (0..listed.len()).position(|at| {
+        let row = listed[at];
         latest = latest.max(row.start);
-        row.finish < latest
+        row.finish < latest || row.opening() && at > 0
     })
 }
 
 /// The first read that does not follow its dictating write with at most k - 1 other writes between.
 fn far(listed: &[&Row], k: u64) -> Option<usize> {
     (0..listed.len()).position(|at| {
-        let mut behind = listed[..at].iter().rev().filter(|row| row.write).take(k as usize);
-        !listed[at].write && behind.all(|row| row.value != listed[at].value)
+        let mut behind = listed[..at].iter().rev().filter(|row| row.write()).take(k as usize);
+        !listed[at].write() && behind.all(|row| row.value != listed[at].value)
     })
 }
 

@@ -1,6 +1,6 @@
 //! The screening of a register's rows, and its operations by start, with doubled ranks for stamps and shortened writes, in clusters.
 
-use crate::codes::{BAD_SPAN, EARLY_READ, ORPHAN_READ, TWIN_WRITE};
+use crate::codes::{BAD_SPAN, EARLY_READ, ORPHAN_READ, SECOND_OPENING, TWIN_WRITE};
 use crate::file::Row;
 
 /// The largest stamp.
@@ -40,13 +40,11 @@ pub struct Zone {
 }
 
 impl Register {
-    /// The register of these rows, or the code of the first of tests 5 to 9 whose condition is met.
+    /// The register of these rows, or the code of the first of tests 5, 20 and 7 to 9 whose condition is met.
     pub fn screened(rows: &[Row]) -> Result<Register, u64> {
-        if rows.iter().any(bad_span) {
-            return Err(BAD_SPAN);
-        }
-        let by_start = sorted(rows.iter().map(|row| row.start));
-        let by_finish = sorted(rows.iter().map(|row| row.finish));
+        tested(rows)?;
+        let by_start = sorted(rows.iter().map(|row| lifted(row.start, row)));
+        let by_finish = sorted(rows.iter().map(|row| lifted(row.finish, row)));
         let mut ends = vec![0; rows.len()];
         let mut ahead = 0;
         for (&(finish, at), place) in by_finish.iter().zip(0u64..) {
@@ -64,8 +62,8 @@ impl Register {
             }
             let row = &rows[at as usize];
             let rank = u64::from(place) + below as u64;
-            ops.push(Op { start: 2 * rank, finish: 2 * ends[at as usize], cluster: 0, row: row.number, write: row.write });
-            by_value.push((row.value, u32::from(!row.write) << 31 | place));
+            ops.push(Op { start: 2 * rank, finish: 2 * ends[at as usize], cluster: 0, row: row.number, write: row.write() });
+            by_value.push((row.value, u32::from(!row.write()) << 31 | place));
         }
         by_value.sort_unstable_by_key(|&(value, key)| u128::from(value) << 64 | u128::from(key));
         let mut register = Register { ops, clusters: Vec::with_capacity(rows.len()), reads: Vec::with_capacity(rows.len()) };
@@ -142,9 +140,29 @@ impl Register {
     }
 }
 
-/// Whether a row's start is above its finish, or its finish is too large.
+/// Tests 5 and 20.
+fn tested(rows: &[Row]) -> Result<(), u64> {
+    let mut openings = 0;
+    for row in rows {
+        if bad_span(row) {
+            return Err(BAD_SPAN);
+        }
+        openings += u32::from(row.opening());
+    }
+    if openings > 1 {
+        return Err(SECOND_OPENING);
+    }
+    Ok(())
+}
+
+/// Whether a row's start is above its finish, or its finish is too large; an opening has 0 for both.
 pub fn bad_span(row: &Row) -> bool {
-    row.start > row.finish || row.finish > LAST_STAMP
+    row.start > row.finish || row.finish > if row.opening() { 0 } else { LAST_STAMP }
+}
+
+/// A row's stamp, one later where the row is no opening, so that the opening lies below rows that start at 0 too.
+fn lifted(stamp: u64, row: &Row) -> u64 {
+    stamp + u64::from(!row.opening())
 }
 
 /// Stamps with their places, rising; equal ones by place.

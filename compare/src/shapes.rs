@@ -1,6 +1,6 @@
 //! Random files: histories of all shapes and sizes, with the faults that the screening finds.
 
-use crate::file::{Row, MOST_ROWS};
+use crate::file::{Row, MOST_ROWS, WRITE};
 use crate::histories::{self, Walk};
 use crate::random::Random;
 use crate::register::LAST_STAMP;
@@ -74,6 +74,9 @@ fn history(count: usize, random: &mut Random) -> Vec<Row> {
     }
     place(&mut rows, random);
     if random.one_in(2) {
+        open(&mut rows, random);
+    }
+    if random.one_in(2) {
         histories::scramble(&mut rows, random);
     }
     if random.one_in(5) {
@@ -117,6 +120,32 @@ fn place(rows: &mut [Row], random: &mut Random) {
     }
 }
 
+/// Opens a history. The opening may come to stand anywhere, up to two rows go down to 0, where it lies, and a read more may be of it; now and then
+/// there are two, or it has stamps.
+fn open(rows: &mut [Row], random: &mut Random) {
+    let Some(opening) = histories::open(rows) else { return };
+    let [first, second, third] = [0; 3].map(|_| random.below(rows.len() as u64) as usize);
+    for at in [first, second] {
+        match random.below(8) {
+            0 => (rows[at].start, rows[at].finish) = (0, 0),
+            1..=2 => rows[at].start = 0,
+            _ => {}
+        }
+    }
+    if !rows[third].write() && random.one_in(2) {
+        rows[third].value = rows[opening].value;
+    }
+    match random.below(40) {
+        0..=1 => drop(histories::open(rows)),
+        2 => rows[opening].finish = [1, LAST_STAMP, LAST_STAMP + 1, u64::MAX][random.below(4) as usize],
+        3 => (rows[opening].start, rows[opening].finish) = (1 + random.below(3), 1 + random.below(3)),
+        _ => {}
+    }
+    if random.one_in(2) {
+        rows.swap(opening, first);
+    }
+}
+
 /// One fault, or a change near one that is none.
 fn fault(rows: &mut [Row], random: &mut Random) {
     if rows.is_empty() {
@@ -132,7 +161,7 @@ fn fault(rows: &mut [Row], random: &mut Random) {
         5 => rows[at].start = rows[other].finish,
         6 => rows[at].value = rows[other].value,
         7 => rows[at].value = if random.one_in(2) { rows[other].value ^ 1 << random.below(64) } else { random.next() },
-        8 => rows[at].write = !rows[at].write,
+        8 => rows[at].kind = WRITE + random.below(3) as u16,
         9 => (rows[at].value, rows[other].value) = (rows[other].value, rows[at].value),
         _ => {
             let (mine, its) = (rows[at], rows[other]);

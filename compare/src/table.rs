@@ -2,7 +2,7 @@
 
 use crate::answer::Answer;
 use crate::codes::{BAD_KIND, NO_SUCH_QUESTION, OVERFULL, RAGGED};
-use crate::file::{Row, MOST_ROWS, READ, WRITE};
+use crate::file::{Row, MOST_ROWS, OPENING, WRITE};
 
 pub const COLUMNS: usize = 5;
 
@@ -19,11 +19,10 @@ pub fn whole(table: &[u64]) -> Result<(), Answer> {
 
 /// The row of five numbers, or the refusal of its kind.
 pub fn row(number: u32, cells: &[u64]) -> Result<Row, Answer> {
-    let write = cells[1] == u64::from(WRITE);
-    if !write && cells[1] != u64::from(READ) {
-        return Err(Answer::refused(BAD_KIND, u64::from(number)));
+    match u16::try_from(cells[1]) {
+        Ok(kind @ WRITE..=OPENING) => Ok(Row { number, kind, value: cells[2], start: cells[3], finish: cells[4] }),
+        _ => Err(Answer::refused(BAD_KIND, u64::from(number))),
     }
-    Ok(Row { number, write, value: cells[2], start: cells[3], finish: cells[4] })
 }
 
 /// Tests 1 to 3; `asked` tells the condition of test 3.

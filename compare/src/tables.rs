@@ -1,13 +1,13 @@
 //! Random tables: histories of all shapes and sizes, sound ones and malformed ones.
 
-use crate::file::{Row, MOST_ROWS, READ, WRITE};
+use crate::file::{Row, MOST_ROWS};
 use crate::random::Random;
 use crate::register::LAST_STAMP;
 use crate::shapes;
 use crate::table::COLUMNS;
 
 fn cells(register: u64, row: &Row) -> [u64; COLUMNS] {
-    [register, u64::from(if row.write { WRITE } else { READ }), row.value, row.start, row.finish]
+    [register, u64::from(row.kind), row.value, row.start, row.finish]
 }
 
 /// A table of one register, a few, or sixty.
@@ -59,7 +59,7 @@ fn change(table: &mut Vec<u64>, random: &mut Random) {
         1 => table.extend((0..1 + random.below(6)).map(|_| random.below(4))),
         2 => pad(table, random),
         3..=5 => {
-            let kind = [0, 3, 1 << 32, 1 << 32 | 1, u64::MAX, random.next()][random.below(6) as usize];
+            let kind = [0, 3, 4, 1 << 32, 1 << 32 | 1, 3 << 32 | 3, u64::MAX, random.next()][random.below(8) as usize];
             set(table, at / COLUMNS * COLUMNS + 1, kind);
         }
         6..=8 => {

@@ -4,6 +4,7 @@
 use Prim.Native.Nat.{ℕ, _<_}
 use mathlib.Core.Path.{_≡_, refl, sym, ap, _∙_}
 use mathlib.Core.Logic.{_⊎_, inl, inr, _≢_}
+use mathlib.Core.Bool.{true}
 use mathlib.Core.List.{List, [], _∷_, List·Memᴰ as In}
 use native.Mathlib.Omega.{arith}
 use lib.ListN.{length}
@@ -14,7 +15,7 @@ use Rattle.lists.proofs.Members.{nothing-none, none-nothing}
 use Rattle.lists.proofs.Maps.{in-map, map-in}
 use Rattle.history.specs.declared.Op.{Op}
 use Rattle.history.specs.declared.Answer.{Answer}
-use Rattle.history.specs.Table.{opAt, rowsOf, history, Precedes, Dictates}
+use Rattle.history.specs.Table.{opAt, rowsOf, history, isWrite, Precedes, Dictates}
 use Rattle.history.specs.Answer.{number, orphan-read, early-read, Test, test, lowestRow, refusedOr, firstMet, passed}
 use Rattle.history.specs.Screen.{rewrites, unwritten, tooEarly, tests, examined, screening}
 use Rattle.history.proofs.Rows.{in-rows, rows-in}
@@ -79,17 +80,18 @@ module _ (t : List ℕ) (register : ℕ) where
 
   -- CODES 8 AND 9 OF THE SCREENING: test 7 is passed before them, so no value is written twice.
 
-  behind-seven : {c : ℕ} → 7 < c → screening t register .code ≡ c →
+  behind-seven : {c : ℕ} → 7 < c → c < 20 → screening t register .code ≡ c →
       (lowestRow (rewrites h) h ≡ Nothing)
       × (firstMet (test orphan-read (lowestRow (unwritten h) h) ∷ test early-read (lowestRow (tooEarly h) h) ∷ []) (passed (length h)) .code ≡ c)
   unfolding screening examined tests
-  behind-seven l e =
-      let two = not-yet _ _ _ e (omega (arith, l)) .1 in
-      let three = not-yet _ _ _ two (omega (arith, l)) .1 in
-      let four = not-yet _ _ _ three (omega (arith, l)) .1 in
-      let five = not-yet _ _ _ four (omega (arith, l)) .1 in
-      let seven = not-yet _ _ _ five (omega (arith, l)) .1 in
-      not-yet _ _ _ seven (omega (arith, l))
+  behind-seven l m e =
+      let two = not-yet _ _ _ e (omega (arith, l, m)) .1 in
+      let three = not-yet _ _ _ two (omega (arith, l, m)) .1 in
+      let four = not-yet _ _ _ three (omega (arith, l, m)) .1 in
+      let five = not-yet _ _ _ four (omega (arith, l, m)) .1 in
+      let again = not-yet _ _ _ five (omega (arith, l, m)) .1 in
+      let seven = not-yet _ _ _ again (omega (arith, l, m)) .1 in
+      not-yet _ _ _ seven (omega (arith, l, m))
 
   -- an operation is that of its row
   by-row : {x : Op} → In x h → x ≡ opAt t (x .row)
@@ -103,7 +105,7 @@ module _ (t : List ℕ) (register : ℕ) where
       let r : v .row ≡ w .row = omega arith in
       by-row i ∙ (ap (opAt t) r ∙ sym (by-row j))
     where
-      no-twin : (x y : Op) → In x h → In y h → x .kind ≡ 1 → y .kind ≡ 1 → x .value ≡ y .value → x .row < y .row → ⊥
+      no-twin : (x y : Op) → In x h → In y h → isWrite x ≡ true → isWrite y ≡ true → x .value ≡ y .value → x .row < y .row → ⊥
       no-twin x y m n f g s r = told-false (told-rewrites h y) (nothing-none (λ o. o .row) (rewrites h) h e y n) (g, (x, m, ((r, f), s)))
 
   -- behind the last test comes the answer of a register that passes
@@ -113,12 +115,12 @@ module _ (t : List ℕ) (register : ℕ) where
 
   pub refused-no-order : (screening t register .code ≡ number orphan-read) ⊎ (screening t register .code ≡ number early-read) → NeverAtomic t register
   refused-no-order (inl e) k order a =
-      let q = behind-seven (omega arith) e .1 in
+      let q = behind-seven (omega arith) (omega arith) e .1 in
       let written = none-nothing (λ o. o .row) (unwritten h) h (λ o m. false-told (told-unwritten h o)
       (λ u. undictated-no-order o m (u .0) (λ w i d. u .1 (w, i, d)) k order a)) in
       omega (arith, met-none (not-yet _ _ _ (unmet _ _ _ q written) (omega arith) .1))
   refused-no-order (inr e) k order a =
-      let (n, q) = behind-seven (omega arith) e in
+      let (n, q) = behind-seven (omega arith) (omega arith) e in
       let timely = none-nothing (λ o. o .row) (tooEarly h) h (λ o m. false-told (told-early h o)
       (λ (f, (w, i, (d, p))). anomaly-no-order (distinct n) (early w o i m d p) k order a)) in
       omega (arith, met-none (unmet _ _ _ (not-yet _ _ _ q (omega arith) .1) timely))

@@ -2,9 +2,10 @@
 -- Assumes nothing.
 use Prim.Native.Nat.{ℕ}
 use mathlib.Core.Path.{_≡_}
+use mathlib.Core.Bool.{true}
 use mathlib.Core.List.{List, List·Memᴰ as In}
 use Rattle.history.specs.declared.Op.{Op}
-use Rattle.history.specs.Table.{Precedes, Dictates}
+use Rattle.history.specs.Table.{isWrite, Precedes, Dictates}
 use Rattle.atomicity.specs.Order.{Atomic}
 
 pub data Anomaly (h : List Op) : Type 0 where
@@ -15,7 +16,7 @@ pub data Anomaly (h : List Op) : Type 0 where
 
 -- each write assigns a distinct value (000, section II.C; 01, code 7): no value is written twice
 abbrev pub DistinctValues : List Op → Type 0
-DistinctValues h = (v w : Op) → In v h → In w h → v .kind ≡ 1 → w .kind ≡ 1 → v .value ≡ w .value → v ≡ w
+DistinctValues h = (v w : Op) → In v h → In w h → isWrite v ≡ true → isWrite w ≡ true → v .value ≡ w .value → v ≡ w
 
 -- no list is a valid k-atomic order of the register, for any k (000, section II.A)
 abbrev pub NeverAtomic : List ℕ → ℕ → Type 0

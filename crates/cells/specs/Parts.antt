@@ -45,10 +45,10 @@ cellsOf l = parts comma 0 (l .at) (l .bytes)
 unfoldable pub linesFrom : List ℕ → ℕ → ℕ → List Part
 linesFrom bs n at = keep (λ l. ltb (l .at) (length bs)) (parts feed n at (drop at bs))
 
--- What a kind cell says: w is a write, r a read (02, W-201, "Kind cells are w or r").
+-- What a kind cell says: w is a write, r a read (02, W-201, "Kind cells are w or r"), o the opening (02, W-207).
 unfoldable pub kindOf : List ℕ → Number
 kindOf [] = Nothing
-kindOf (b ∷ []) = cond (eqb b 119) (Is 1) (cond (eqb b 114) (Is 2) Nothing)
+kindOf (b ∷ []) = cond (eqb b 119) (Is 1) (cond (eqb b 114) (Is 2) (cond (eqb b 111) (Is 3) Nothing))
 kindOf (b ∷ d ∷ t) = Nothing
 
 -- Two texts are the same, byte for byte (02, W-201: names).

@@ -115,13 +115,16 @@ pub fn stamp_cell(bytes: &[u8], at: usize) -> Cell
 }
 
 fn kind(byte: u8) -> Number
-    ensures { λ r. ⌜ r ≡ cond (eqb byte 119) (Is 1) (cond (eqb byte 114) (Is 2) Nothing) ⌝ }
+    ensures { λ r. ⌜ r ≡ cond (eqb byte 119) (Is 1) (cond (eqb byte 114) (Is 2) (cond (eqb byte 111) (Is 3) Nothing)) ⌝ }
 {
     if byte == b'w' {
         return Number::Is(Op::WRITE);
     }
     if byte == b'r' {
         return Number::Is(Op::READ);
+    }
+    if byte == b'o' {
+        return Number::Is(Op::OPENING);
     }
     Number::Nothing
 }

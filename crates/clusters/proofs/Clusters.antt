@@ -112,7 +112,7 @@ module _ {H : List Op} (g : Prepared H) where
       let (c, l) = h v w a b in
       record {
         apart = λ q. c (sym d ∙ (ap (λ o. o .value) (named (g .proper .rows) x y i j q) ∙ e));
-        valid = omega (arith, l, starts-by (kv v a) i d, ends-from (kw w b) j e);
+        valid = λ p. omega (arith, l, starts-by (kv v a) i d, ends-from (kw w b) j e, g .clock y x j i p);
       }
 
   -- one cluster: the write first, then its reads by start
@@ -130,7 +130,7 @@ module _ {H : List Op} (g : Prepared H) where
       first y d =
           record {
             apart = λ e. both (kw .write) (ap isWrite (named (g .proper .rows) w y (kw .mem) (d .mem) e) ∙ d .read);
-            valid = omega (arith, g .proper .span w (kw .mem), g .first w y d);
+            valid = λ p. omega (arith, g .proper .span w (kw .mem), g .first w y d, g .clock y w (d .mem) (kw .mem) p);
           }
 
       from : (x : Op) → In x (cluster H w) → In x (only (w ∷ []) H)
@@ -154,7 +154,7 @@ module _ {H : List Op} (g : Prepared H) where
       (pos x < pos c) ⊎ ((r : Op) × Reads H c r × (pos c < pos x) × (pos x < pos r))
   before-or-between {pos} k {x} {c} kx kc n h =
       let (o, m, b, q) = last-is kc in
-      go o b (k .valid x o (kx .mem) m (omega (arith, first-finish kx))) (decLt (pos x) (pos c))
+      go o b (k .valid x o (kx .mem) m (inl (omega (arith, first-finish kx)))) (decLt (pos x) (pos c))
     where
       go : (o : Op) → (o ≡ c) ⊎ Reads H c o → pos x < pos o → Dec (pos x < pos c) →
           (pos x < pos c) ⊎ ((r : Op) × Reads H c r × (pos c < pos x) × (pos x < pos r))

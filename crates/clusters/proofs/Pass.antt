@@ -1,7 +1,7 @@
--- The pass over zones in a sequence: what it says of every two of them, and that it compares finishes with starts alone.
+-- The pass over zones in a sequence: what it says of every two of them.
 -- Assumes nothing.
 use Prim.Native.Nat.{ℕ, _≤_}
-use mathlib.Core.Path.{_≡_, refl, ap}
+use mathlib.Core.Path.{_≡_, refl}
 use mathlib.Core.Bool.{Bool, true, false, cond}
 use mathlib.Core.List.{List, [], _∷_, map, List·Memᴰ as In, List·Memᴰ·head as here, List·Memᴰ·tail as there}
 use native.Mathlib.Omega.{arith}
@@ -47,19 +47,3 @@ module _ {A : Type 0} (z : A → Zone) where
       go : (d : Bool) → forward (z w) ≡ d → ((c : ℕ) → ((x : A) → In x l → c ≤ z x .finish) → passes c (map z l) ≡ true) → passes (cond d (z w .start) b) (map z l) ≡ true
       go true q ih = ih (z w .start) (λ x m. u x m q)
       go false q ih = ih b (λ x m. h x (there m))
-
--- Two families of zones of which each finish and each start compare alike pass alike.
-module _ {A : Type 0} (z s : A → Zone) (Own : A → Type 0) (alike : (v w : A) → Own v → Own w → ltb (z v .finish) (z w .start) ≡ ltb (s v .finish) (s w .start)) where
-  pub pass-alike : (b c : ℕ) (l : List A) → ((x : A) → In x l → Own x) → ((x : A) → In x l → ltb (z x .finish) b ≡ ltb (s x .finish) c) → passes b (map z l) ≡ passes c (map s l)
-  unfolding passes reached
-  pass-alike b c [] own h = refl
-  pass-alike b c (w ∷ l) own h =
-      let k = own w (here refl) in
-      rw (h w (here refl), ← alike w w k k)
-      (ap (λ (d : Bool). cond (ltb (s w .finish) c) false d)
-      (go (forward (z w)) (λ e f. pass-alike e f l (λ x m. own x (there m)))))
-    where
-      go : (d : Bool) → ((e f : ℕ) → ((x : A) → In x l → ltb (z x .finish) e ≡ ltb (s x .finish) f) → passes e (map z l) ≡ passes f (map s l)) →
-          passes (cond d (z w .start) b) (map z l) ≡ passes (cond d (s w .start) c) (map s l)
-      go true ih = ih (z w .start) (s w .start) (λ x m. alike x w (own x (there m)) (own w (here refl)))
-      go false ih = ih b c (λ x m. h x (there m))

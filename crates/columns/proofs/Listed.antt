@@ -1,4 +1,4 @@
--- The rows of a screened register by rising start: their operations, that the columns can be made from them, and the write of each.
+-- The rows of a screened register by rising time: their operations, that the columns can be made from them, and the write of each.
 -- Assumes nothing.
 use Prim.Native.Nat.{ℕ, _≤_, _<_}
 use mathlib.Core.Path.{_≡_, refl, sym, ap, _∙_}
@@ -11,15 +11,15 @@ use Rattle.lists.specs.Sorts.{sort}
 use Rattle.lists.specs.Pairs.{Pairs}
 use Rattle.lists.proofs.Tests.{test}
 use Rattle.lists.proofs.Maps.{in-map, map-in}
-use Rattle.lists.proofs.Sorts.{in-sort, sort-length, sort-apart}
+use Rattle.lists.proofs.Sorts.{in-sort, sort-in, sort-length, sort-apart}
 use Rattle.lists.proofs.Images.{sort-map, getD-map, getD-in, pairs-at}
 use Rattle.history.specs.declared.Op.{Op}
 use Rattle.history.specs.Table.{largestCount, opAt, rowsOf, history, isWrite}
 use Rattle.history.proofs.Rows.{in-rows, history-count, rows-few}
-use Rattle.methods.specs.Prepared.{startsFirst, byStart}
+use Rattle.preparation.specs.Times.{beginsFirst, byTime}
 use Rattle.methods.specs.Mark.{rowNumbers}
 use Rattle.witnesses.specs.Histories.{Apart, Proper}
-use Rattle.preparation.proofs.Timed.{screened-proper, from-sorted, into-sorted}
+use Rattle.preparation.proofs.Timed.{screened-proper}
 use Rattle.preparation.proofs.Rows.{rows-back, history-rows}
 use Rattle.positions.proofs.Places.{below}
 use Rattle.positions.specs.Columns.{nothing, op}
@@ -29,32 +29,32 @@ use Rattle.writers.specs.Writers.{writesAt, writerOf, rowOp}
 use Rattle.writers.proofs.Seeking.{writes-is, is-writes, seek-in}
 use Rattle.columns.specs.Writers.{Tied}
 
--- the rows by rising start
+-- the rows by rising time
 pub sortedRows : List ℕ → ℕ → List ℕ
-sortedRows t register = sort (λ x y. startsFirst (opAt t x) (opAt t y)) (rowsOf t register)
+sortedRows t register = sort (λ x y. beginsFirst (opAt t x) (opAt t y)) (rowsOf t register)
 
-pub sorted-is : (t : List ℕ) (register : ℕ) → sortedRows t register ≡ sort (λ x y. startsFirst (opAt t x) (opAt t y)) (rowsOf t register)
+pub sorted-is : (t : List ℕ) (register : ℕ) → sortedRows t register ≡ sort (λ x y. beginsFirst (opAt t x) (opAt t y)) (rowsOf t register)
 unfolding sortedRows
 sorted-is t register = refl
 
 module _ (t : List ℕ) (register : ℕ) where
-  sorted-ops : byStart (history t register) ≡ map (opAt t) (sortedRows t register)
-  unfolding byStart history sortedRows
-  sorted-ops = sort-map (opAt t) startsFirst (rowsOf t register)
+  sorted-ops : byTime (history t register) ≡ map (opAt t) (sortedRows t register)
+  unfolding byTime history sortedRows
+  sorted-ops = sort-map (opAt t) beginsFirst (rowsOf t register)
 
-  pub sorted-numbers : rowNumbers (byStart (history t register)) ≡ sortedRows t register
+  pub sorted-numbers : rowNumbers (byTime (history t register)) ≡ sortedRows t register
   sorted-numbers = ap (λ (o : List Op). rowNumbers o) sorted-ops ∙ rows-back t (sortedRows t register)
 
   in-sorted : {x : ℕ} → In x (sortedRows t register) → In x (rowsOf t register)
   unfolding sortedRows
-  in-sorted m = in-sort (λ x y. startsFirst (opAt t x) (opAt t y)) (rowsOf t register) m
+  in-sorted m = in-sort (λ x y. beginsFirst (opAt t x) (opAt t y)) (rowsOf t register) m
 
 module _ {t : List ℕ} {register : ℕ} {rows : List ℕ} (g : Listed t register rows) where
   rows-are : rows ≡ sortedRows t register
   rows-are = g .listed ∙ sorted-numbers t register
 
-  -- the register's operations by rising start are those of the rows
-  pub listed-ops : byStart (history t register) ≡ map (opAt t) rows
+  -- the register's operations by rising time are those of the rows
+  pub listed-ops : byTime (history t register) ≡ map (opAt t) rows
   listed-ops = sorted-ops t register ∙ ap (map (opAt t)) (sym rows-are)
 
   -- the register's history, as the screening leaves it
@@ -65,20 +65,26 @@ module _ {t : List ℕ} {register : ℕ} {rows : List ℕ} (g : Listed t registe
   listed-stands = record { rise = history-rows t register; sorted = listed-ops }
 
   pub in-history : {x : ℕ} → In x rows → In (opAt t x) (history t register)
-  in-history {x} m = from-sorted (opAt t x) (rw listed-ops (map-in (opAt t) m))
+  unfolding history
+  in-history {x} m = map-in (opAt t) (in-sorted t register (rw rows-are at m))
+
+  -- an operation of the register is one of the rows'
+  from-history : {o : Op} → In o (history t register) → In o (map (opAt t) rows)
+  unfolding byTime
+  from-history m = rw listed-ops at (sort-in beginsFirst (history t register) m)
 
   pub listed-fit : Fit t rows
   listed-fit =
       record {
         inside = λ x m. omega (arith, in-rows t register (in-sorted t register (rw rows-are at m)) .exists);
-        spans = λ x m. g .screened .spans (opAt t x) (in-history m) .0;
+        spans = λ x m. g .screened .spans (opAt t x) (in-history m);
       }
 
   pub listed-few : length rows ≤ largestCount
   unfolding sortedRows
   listed-few =
       omega
-      (arith, ap length rows-are, sort-length (λ x y. startsFirst (opAt t x) (opAt t y)) (rowsOf t register), history-count t register, rows-few t register, g .screened .few)
+      (arith, ap length rows-are, sort-length (λ x y. beginsFirst (opAt t x) (opAt t y)) (rowsOf t register), history-count t register, rows-few t register, g .screened .few)
 
   -- each row has a write of its value among the rows
   has-write : (x : ℕ) → In x rows → (y : ℕ) × In y rows × (writesAt t (opAt t x .value) y ≡ true)
@@ -88,13 +94,13 @@ module _ {t : List ℕ} {register : ℕ} {rows : List ℕ} (g : Listed t registe
       go (inl e) = (x, m, is-writes (opAt t x .value) (opAt t x) e refl)
       go (inr e) =
           let d = proper .dict (opAt t x) (in-history m) e in
-          let y = in-map (opAt t) rows (rw listed-ops at (into-sorted (d .0) (d .1 .by .mem))) in
+          let y = in-map (opAt t) rows (from-history (d .1 .by .mem)) in
           (y .0, y .1, is-writes (opAt t x .value) (opAt t (y .0)) (ap isWrite (sym (y .2)) ∙ d .1 .by .write) (ap (λ o. o .value) (sym (y .2)) ∙ d .1 .same))
 
   -- the rows differ, so an operation stands at one position
   apart : Pairs Apart (map (opAt t) rows)
-  unfolding byStart
-  apart = rw listed-ops at (sort-apart startsFirst Apart (λ x y d e. d (sym e)) (proper .rows))
+  unfolding byTime
+  apart = rw listed-ops at (sort-apart beginsFirst Apart (λ x y d e. d (sym e)) (proper .rows))
 
   at-one : (i j : ℕ) → i < length rows → j < length rows → rowOp t rows i ≡ rowOp t rows j → i ≡ j
   at-one i j h k e = go (below i j) (below j i)

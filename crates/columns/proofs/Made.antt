@@ -7,11 +7,11 @@ use native.Mathlib.Omega.{arith}
 use lib.ListN.{length, getD, length-map}
 use Rattle.lists.proofs.Images.{map-twice, getD-map, getD-in}
 use Rattle.history.specs.declared.Op.{Op}
-use Rattle.history.specs.Table.{opAt, history, isWrite}
+use Rattle.history.specs.Table.{opAt, history, isOpening, isWrite}
 use Rattle.methods.specs.Ranks.{byRank, ranked}
 use Rattle.methods.specs.Prepared.{byStart, newFinish, short, shorten, prepared}
 use Rattle.methods.specs.Mark.{rowNumbers}
-use Rattle.preparation.proofs.Ranks.{meets-ranked}
+use Rattle.preparation.proofs.Ranks.{own-ranked}
 use Rattle.preparation.proofs.Sequence.{ranked-sorted}
 use Rattle.preparation.proofs.Shorten.{prepared-history}
 use Rattle.ranking.specs.Ranked.{Ranked, RanksOf}
@@ -40,7 +40,7 @@ module _ {t : List ℕ} {register : ℕ} {rows : List ℕ} (g : Listed t registe
   R = map byRow rows
 
   ranked-rows : byStart (ranked h) ≡ R
-  ranked-rows = ranked-sorted h (history-rows t register) ∙ ap (map (byRank h)) (listed-ops g) ∙ map-twice (byRank h) (opAt t) rows
+  ranked-rows = ranked-sorted h (history-rows t register) (g .screened .spans) ∙ ap (map (byRank h)) (listed-ops g) ∙ map-twice (byRank h) (opAt t) rows
 
   -- the prepared history, by the rows
   history-is : H ≡ map (λ x. short R (byRow x)) rows
@@ -66,7 +66,7 @@ module _ {t : List ℕ} {register : ℕ} {rows : List ℕ} (g : Listed t registe
   row-is j l = getD-map byRow rows j nothing 0 l
 
   kind-is : (j : ℕ) → j < length rows → isWrite (op H j) ≡ isWrite (op R j)
-  unfolding isWrite
+  unfolding isWrite isOpening
   kind-is j l = ap (λ (o : Op). isWrite o) (op-is j l) ∙ ap (λ (o : Op). isWrite o) (sym (row-is j l))
 
   value-is : (j : ℕ) → j < length rows → op H j .value ≡ op R j .value
@@ -83,7 +83,7 @@ module _ {t : List ℕ} {register : ℕ} {rows : List ℕ} (g : Listed t registe
 
   module _ (writer : List ℕ) (e : writer ≡ map (writerOf t rows) rows) where
     made-tied : Tied R writer
-    unfolding isWrite
+    unfolding isWrite isOpening
     made-tied = rw e (listed-tied g byRow (λ x. refl) (λ x. refl))
 
     -- a finish comes after its own start
@@ -91,7 +91,7 @@ module _ {t : List ℕ} {register : ℕ} {rows : List ℕ} (g : Listed t registe
     above j l =
         let k : j < length rows = omega (arith, length-map rows byRow) in
         let m = in-history g (getD-in rows 0 j k) in
-        omega (arith, ap (λ (o : Op). o .finish) (row-is j k), meets-ranked h m m (g .screened .spans _ m .0))
+        omega (arith, ap (λ (o : Op). o .finish) (row-is j k), own-ranked h (g .screened .spans) m)
 
     module _ (start finish : List ℕ) (r : Ranked t rows h start finish) where
       made-whole : Whole R writer finish

@@ -6,13 +6,14 @@ ghost use mathlib.Core.Bool.{true};
 ghost use mathlib.Core.List.{List, map};
 ghost use Prim.Native.Nat.{ℕ, _≤_, _<_};
 ghost use lib.ListN.{length, getD, take};
-ghost use Rattle.history.specs.Table.{largestCount, rowCount, opAt, bears, history};
+ghost use Rattle.history.specs.Table.{largestCount, rowCount, opAt, history};
 ghost use Rattle.history.specs.declared.Op.{Op as Operation};
-ghost use Rattle.methods.specs.Prepared.{byStart, newFinish};
-ghost use Rattle.methods.specs.Mark.{rowNumbers, written};
+ghost use Rattle.preparation.specs.Times.{byTime};
+ghost use Rattle.methods.specs.Prepared.{newFinish};
+ghost use Rattle.methods.specs.Mark.{rowNumbers};
 ghost use Rattle.positions.specs.Columns.{cols, isOwn, Linked};
 ghost use Rattle.columns.specs.Gathered.{Gathered};
-ghost use Rattle.writers.specs.Writers.{Within};
+ghost use Rattle.ranking.specs.Ranked.{Fit};
 ghost use Rattle.columns.specs.Rows.{Keyed, Listed};
 ghost use Rattle.columns.specs.Finishes.{lowered, Whole};
 ghost use Rattle.columns.specs.Made.{Room, Made};
@@ -26,81 +27,83 @@ const FEW: usize = 32;
 // Up to so many, an array of a middle size does.
 const SOME: usize = 256;
 
-// The start of each of the rows, at the place of its row.
-fn starts_of(table: &[u64], rows: &[u64], keys: &mut [u64])
-    requires { ⌜ Within (now table) (now rows) ⌝ }
+// The time of the start of each of the rows, at the place of its row.
+fn times_of(table: &[u64], rows: &[u64], keys: &mut [u64])
+    requires { ⌜ Fit (now table) (now rows) ⌝ }
     requires { ⌜ rowCount (now table) ≤ length (now keys) ⌝ }
     ensures { λ _. ⌜ Keyed (now (table .entry)) (now (rows .entry)) (now (keys .exit)) ⌝ }
 {
     let mut i: usize = 0;
     while i < rows.len() {
         let row = rows[i] as usize;
-        keys[row] = Op::at(table, row).start;
+        let o = Op::at(table, row);
+        keys[row] = ranking::time(o, o.start);
         i += 1;
     }
 }
 
-// Whether given rows stand by rising start as they are.
-fn by_start(table: &[u64], rows: &[u64]) -> bool
-    requires { ⌜ Within (now table) (now rows) ⌝ }
-    ensures { λ r. ⌜ (r ≡ true → now (rows .entry) ≡ rowNumbers (byStart (map (opAt (now (table .entry))) (now (rows .entry))))) ⌝ }
+// Whether given rows stand by rising time as they are.
+fn by_time(table: &[u64], rows: &[u64]) -> bool
+    requires { ⌜ Fit (now table) (now rows) ⌝ }
+    ensures { λ r. ⌜ (r ≡ true → now (rows .entry) ≡ rowNumbers (byTime (map (opAt (now (table .entry))) (now (rows .entry))))) ⌝ }
 {
     let mut first = LARGEST;
     let mut place = rows.len();
     while place > 0 {
-        let start = Op::at(table, rows[place - 1] as usize).start;
-        if first < start {
+        let o = Op::at(table, rows[place - 1] as usize);
+        let time = ranking::time(o, o.start);
+        if first < time {
             return false;
         }
-        first = start;
+        first = time;
         place -= 1;
     }
     true
 }
 
-// Sorts given rows by start, with a place for the start of each row of the table.
-fn sort_starts(table: &[u64], keys: &mut [u64], rows: &mut [u64])
-    requires { ⌜ Within (now table) (now rows) ⌝ }
+// Sorts given rows by time, with a place for the time of each row of the table.
+fn sort_times(table: &[u64], keys: &mut [u64], rows: &mut [u64])
+    requires { ⌜ Fit (now table) (now rows) ⌝ }
     requires { ⌜ rowCount (now table) ≤ length (now keys) ⌝ }
-    ensures { λ _. ⌜ now (rows .exit) ≡ rowNumbers (byStart (map (opAt (now (table .entry))) (now (rows .entry)))) ⌝ }
+    ensures { λ _. ⌜ now (rows .exit) ≡ rowNumbers (byTime (map (opAt (now (table .entry))) (now (rows .entry)))) ⌝ }
 {
-    starts_of(table, rows, keys);
+    times_of(table, rows, keys);
     sorting::sort_by(keys, rows);
 }
 
-// Puts given rows by rising start, those with one start in their sequence, with a place for the start of each row of the table.
+// Puts given rows by rising time, those with one time in their sequence, with a place for the time of each row of the table.
 pub fn sort_rows(table: &[u64], keys: &mut [u64], rows: &mut [u64])
-    requires { ⌜ Within (now table) (now rows) ⌝ }
+    requires { ⌜ Fit (now table) (now rows) ⌝ }
     requires { ⌜ rowCount (now table) ≤ length (now keys) ⌝ }
-    ensures { λ _. ⌜ now (rows .exit) ≡ rowNumbers (byStart (map (opAt (now (table .entry))) (now (rows .entry)))) ⌝ }
+    ensures { λ _. ⌜ now (rows .exit) ≡ rowNumbers (byTime (map (opAt (now (table .entry))) (now (rows .entry)))) ⌝ }
 {
-    if by_start(table, rows) {
+    if by_time(table, rows) {
         return;
     }
-    sort_starts(table, keys, rows);
+    sort_times(table, keys, rows);
 }
 
-// Puts given rows by rising start, those with one start in their sequence.
-pub fn put_by_start(table: &[u64], rows: &mut [u64])
-    requires { ⌜ Within (now table) (now rows) ⌝ }
+// Puts given rows by rising time, those with one time in their sequence.
+pub fn put_by_time(table: &[u64], rows: &mut [u64])
+    requires { ⌜ Fit (now table) (now rows) ⌝ }
     requires { ⌜ rowCount (now table) ≤ largestCount ⌝ }
-    ensures { λ _. ⌜ now (rows .exit) ≡ rowNumbers (byStart (map (opAt (now (table .entry))) (now (rows .entry)))) ⌝ }
+    ensures { λ _. ⌜ now (rows .exit) ≡ rowNumbers (byTime (map (opAt (now (table .entry))) (now (rows .entry)))) ⌝ }
 {
-    if by_start(table, rows) {
+    if by_time(table, rows) {
         return;
     }
     if table.len() / Row::COLUMNS <= FEW {
         let mut few = [0u64; FEW];
-        sort_starts(table, &mut few, rows);
+        sort_times(table, &mut few, rows);
         return;
     }
     if table.len() / Row::COLUMNS <= SOME {
         let mut some = [0u64; SOME];
-        sort_starts(table, &mut some, rows);
+        sort_times(table, &mut some, rows);
         return;
     }
     let mut keys = [0u64; Row::LARGEST_COUNT];
-    sort_starts(table, &mut keys, rows);
+    sort_times(table, &mut keys, rows);
 }
 
 // A write's finish after one of its reads: one below the read's, where that is lower.
@@ -151,7 +154,7 @@ fn link(writer: &[u64], last: &mut [u64], prev: &mut [u64])
     }
 }
 
-// The columns of a screened register's rows, which stand by rising start. The chains are made last, so their slice is lent for the ranks first.
+// The columns of a screened register's rows, which stand by rising time. The chains are made last, so their slice is lent for the ranks first.
 pub fn fill(
     table: &[u64],
     rows: &[u64],

@@ -9,7 +9,7 @@ use Rattle.lists.specs.Pairs.{cons}
 use Rattle.lists.proofs.Pairs.{pairs-map, pairs-image, image-pairs}
 use Rattle.lists.proofs.Maps.{in-map, map-in}
 use Rattle.history.specs.declared.Op.{Op}
-use Rattle.history.specs.Table.{isWrite}
+use Rattle.history.specs.Table.{isOpening, isWrite}
 use Rattle.witnesses.specs.Orders.{Runs, run-nil, run-write, run-read, Orders}
 use Rattle.preparation.specs.Claims.{RowsRise}
 use Rattle.compact.specs.Renumbered.{renumbered, Keeps}
@@ -27,13 +27,13 @@ module _ (f : ℕ → ℕ) where
 
   -- reads and writes stand as they stood
   runs-on : {k : ℕ} {s e : List ℕ} {o : List Op} → Runs k s o e → Runs k s (map g o) e
-  unfolding isWrite
+  unfolding isWrite isOpening
   runs-on run-nil = run-nil
   runs-on (run-write w r) = run-write w (runs-on r)
   runs-on (run-read w m r) = run-read w m (runs-on r)
 
   runs-back : {k : ℕ} {s e : List ℕ} (o : List Op) → Runs k s (map g o) e → Runs k s o e
-  unfolding isWrite
+  unfolding isWrite isOpening
   runs-back [] run-nil = run-nil
   runs-back (x ∷ o) (run-write w r) = run-write w (runs-back o r)
   runs-back (x ∷ o) (run-read w m r) = run-read w m (runs-back o r)
@@ -59,6 +59,7 @@ module _ (f : ℕ → ℕ) where
 
     -- AN ORDER STAYS ONE
     pub orders-on : (k : ℕ) (o : List Op) → Orders k h o → Orders k (map g h) (map g o)
+    unfolding isOpening
     orders-on k o i =
         record {
           from = λ x m. let y = in-map g o m in rw (y .2) (map-in g (i .from (y .0) (y .1)));
@@ -70,6 +71,7 @@ module _ (f : ℕ → ℕ) where
 
     -- AND COMES FROM ONE
     pub orders-back : RowsRise h → (k : ℕ) (o : List Op) → Orders k (map g h) o → (l : List Op) × Orders k h l
+    unfolding isOpening
     orders-back rise k o i = let l = origin h o (i .from) in (l .0, back (l .0) (l .2) (rw (l .1) i))
       where
         back : (l : List Op) → ((x : Op) → In x l → In x h) → Orders k (map g h) (map g l) → Orders k h l

@@ -18,12 +18,11 @@ use Rattle.lists.proofs.Pairs.{pairs-keep}
 use Rattle.lists.proofs.Ranges.{in-below, from-rises, at-each}
 use Rattle.history.specs.Table.{rowAt, rowCount, operation, opAt, bears, rowsOf, history}
 use Rattle.records.specs.Records.{begun, recordAt, cells, tableOf}
-use Rattle.records.proofs.Blocks.{blocks, blocks-part}
+use Rattle.records.proofs.Blocks.{blocks, blocks-part, flat-places}
 use Rattle.records.proofs.Records.{cells-row, length-table, count-table, table-row}
-use Rattle.files.proofs.Passing.{Whole}
+use Rattle.files.specs.Files.{Whole}
 use Rattle.marks.specs.Marks.{answerTo, mostTrials}
 use Rattle.selection.specs.Selected.{isOf, recordsOf, registerTable}
-use Rattle.selection.proofs.Selecting.{flat-places}
 use Rattle.selection.proofs.Loaded.{length-register, register-few}
 use Rattle.compact.specs.Renumbered.{renumbered, Keeps}
 use Rattle.compact.proofs.Codes.{same-code}

@@ -13,9 +13,9 @@ use Rattle.lists.proofs.Tests.{both}
 use Rattle.lists.proofs.Members.{any-ext}
 use Rattle.history.specs.declared.Op.{Op}
 use Rattle.history.specs.declared.Answer.{Answer}
-use Rattle.history.specs.Table.{largestCount, isWrite, isRead, precedes, dictates}
+use Rattle.history.specs.Table.{largestCount, isOpening, isWrite, isRead, precedes, dictates}
 use Rattle.history.specs.Answer.{number, Test, lowestRow, refusedOr, firstMet}
-use Rattle.history.specs.Screen.{wrongKind, wrongSpan, repeats, rewrites, dictatedBy, unwritten, precedesWrite, tooEarly, tests}
+use Rattle.history.specs.Screen.{wrongKind, strayOpening, wrongSpan, opensToo, reopens, repeats, rewrites, dictatedBy, unwritten, precedesWrite, tooEarly, tests}
 use Rattle.methods.specs.Mark.{markTests}
 use Rattle.compact.specs.Renumbered.{renumbered, Keeps}
 
@@ -69,23 +69,27 @@ module _ (f : ℕ → ℕ) (h : List Op) (keeps : Keeps f h) where
   lowest-same p q e = gone-first (λ o. o .row) p (map g h) ∙ ap not (some-same p q e) ∙ sym (gone-first (λ o. o .row) q h)
 
   kind-same : (o : Op) → In o h → wrongKind (g o) ≡ wrongKind o
-  unfolding wrongKind isWrite isRead
+  unfolding wrongKind isOpening isWrite isRead
   kind-same o m = refl
 
   span-same : (o : Op) → In o h → wrongSpan (g o) ≡ wrongSpan o
-  unfolding wrongSpan
+  unfolding wrongSpan strayOpening isOpening
   span-same o m = refl
 
+  again-same : (o : Op) → In o h → reopens (map g h) (g o) ≡ reopens h o
+  unfolding reopens opensToo isOpening
+  again-same o m = ap (λ b. isOpening o && b) (some-same (opensToo (g o)) (opensToo o) (λ e n. rw (keeps e o n m) refl))
+
   twin-same : (o : Op) → In o h → rewrites (map g h) (g o) ≡ rewrites h o
-  unfolding rewrites repeats isWrite
+  unfolding rewrites repeats isOpening isWrite
   twin-same o m = ap (λ b. isWrite o && b) (some-same (repeats (g o)) (repeats o) (λ e n. rw (keeps e o n m) refl))
 
   orphan-same : (o : Op) → In o h → unwritten (map g h) (g o) ≡ unwritten h o
-  unfolding unwritten dictatedBy dictates isWrite isRead
+  unfolding unwritten dictatedBy dictates isOpening isWrite isRead
   orphan-same o m = ap (λ b. isRead o && not b) (some-same (dictatedBy (g o)) (dictatedBy o) (λ w n. refl))
 
   early-same : (o : Op) → In o h → tooEarly (map g h) (g o) ≡ tooEarly h o
-  unfolding tooEarly precedesWrite dictates precedes isWrite isRead
+  unfolding tooEarly precedesWrite dictates precedes isOpening isWrite isRead
   early-same o m = ap (λ b. isRead o && b) (some-same (precedesWrite (g o)) (precedesWrite o) (λ w n. refl))
 
   -- THE SAME REFUSAL, of tables of whole rows that are not too many
@@ -106,10 +110,13 @@ module _ (f : ℕ → ℕ) (h : List Op) (keeps : Keeps f h) where
               (
                 (refl, lowest-same wrongSpan wrongSpan span-same),
                 (
-                  (refl, lowest-same (rewrites (map g h)) (rewrites h) twin-same),
+                  (refl, lowest-same (reopens (map g h)) (reopens h) again-same),
                   (
-                    (refl, lowest-same (unwritten (map g h)) (unwritten h) orphan-same),
-                    ((refl, lowest-same (tooEarly (map g h)) (tooEarly h) early-same), ((refl, rw (length-map h g) refl), tt)),
+                    (refl, lowest-same (rewrites (map g h)) (rewrites h) twin-same),
+                    (
+                      (refl, lowest-same (unwritten (map g h)) (unwritten h) orphan-same),
+                      ((refl, lowest-same (tooEarly (map g h)) (tooEarly h) early-same), ((refl, rw (length-map h g) refl), tt)),
+                    ),
                   ),
                 ),
               ),

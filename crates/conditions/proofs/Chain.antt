@@ -1,4 +1,4 @@
--- Tests 4 to 9 as the code runs them: a chain of the five.
+-- Tests 4 to 9 as the code runs them: a chain of the six.
 -- Assumes nothing.
 use Prim.Native.Nat.{ℕ, _<_}
 use mathlib.Core.Path.{_≡_, refl, ap, sym, _∙_}
@@ -21,9 +21,9 @@ use Rattle.history.specs.Answer.{Code, number, Test, test, refusedOr, firstMet,
 use Rattle.history.proofs.Refusals.{Coded, chained, met-chained}
 use Rattle.writers.specs.Writers.{writerOf}
 use Rattle.conditions.specs.declared.RowTest.{RowTest}
-use Rattle.conditions.specs.declared.RowTest.the-variants.{Kind, Span, Twin, Orphan, Early}
+use Rattle.conditions.specs.declared.RowTest.the-variants.{Kind, Span, Reopening, Twin, Orphan, Early}
 use Rattle.conditions.specs.Tests.{condition, rowTests, shows, lowestAt, shownTest, Quiet, Listed}
-use Rattle.conditions.proofs.Shows.{lowest-is, twin-is, orphan-is, early-is}
+use Rattle.conditions.proofs.Shows.{lowest-is, again-is, twin-is, orphan-is, early-is}
 
 coded : (h : List Op) → Coded (rowTests h)
 unfolding rowTests
@@ -64,6 +64,9 @@ module _ (t rows writer : List ℕ) (g : Listed t rows) (f : writer ≡ map (wri
   unfolding shows condition
   span-same column = lowest-is t rows (shows Span t rows column) (condition Span h) (λ i l. refl)
 
+  again-same : (column : List ℕ) → Same column Reopening
+  again-same column = lowest-is t rows (shows Reopening t rows column) (condition Reopening h) (again-is t rows (g .rising) column)
+
   twin-same : Same writer Twin
   twin-same = lowest-is t rows (shows Twin t rows writer) (condition Twin h) (twin-is t rows (g .rising) writer f)
 
@@ -75,21 +78,22 @@ module _ (t rows writer : List ℕ) (g : Listed t rows) (f : writer ≡ map (wri
   early-same once = lowest-is t rows (shows Early t rows writer) (condition Early h) (early-is t rows (g .rising) writer f once)
 
   -- the chain up to the orphans
-  abbrev pub upto : List ℕ → List ℕ → Answer
-  upto a b =
-      orTest (orTest (orTest (orTest (passed (length rows)) (shownTest t rows a Kind)) (shownTest t rows b Span)) (shownTest t rows writer Twin)) (shownTest t rows writer Orphan)
+  abbrev pub upto : List ℕ → Answer
+  upto a =
+      orTest (orTest (orTest (orTest (orTest (passed (length rows)) (shownTest t rows a Kind)) (shownTest t rows a Span)) (shownTest t rows a Reopening)) (shownTest t rows writer Twin))
+      (shownTest t rows writer Orphan)
 
   -- no condition was met up to the orphans, so that no write repeats a value
-  once : (a b : List ℕ) → upto a b .code ≡ 0 → lowestRow (condition Twin h) h ≡ Nothing
-  once a b z =
+  once : (a : List ℕ) → upto a .code ≡ 0 → lowestRow (condition Twin h) h ≡ Nothing
+  once a z =
       let orphan = or-zero _ (shownTest t rows writer Orphan) (omega arith) z in
       sym twin-same ∙ or-zero _ (shownTest t rows writer Twin) (omega arith) (orphan .0) .1
 
-  pub rows-examined : (a b : List ℕ) → orTest (upto a b) (shownTest t rows writer Early) ≡ firstMet (rowTests h) (passed (length rows))
+  pub rows-examined : (a : List ℕ) → orTest (upto a) (shownTest t rows writer Early) ≡ firstMet (rowTests h) (passed (length rows))
   unfolding rowTests chained
-  rows-examined a b =
-      or-same _ _ _ _ (λ z. early-same (once a b z))
-      ∙ rw (kind-same a, span-same b, twin-same, orphan-same) refl
+  rows-examined a =
+      or-same _ _ _ _ (λ z. early-same (once a z))
+      ∙ rw (kind-same a, span-same a, again-same a, twin-same, orphan-same) refl
       ∙ sym (met-chained (rowTests h) (coded h) (passed (length rows)) refl)
 
   -- a test that no row shows refuses nothing
@@ -109,6 +113,7 @@ module _ (t rows writer : List ℕ) (g : Listed t rows) (f : writer ≡ map (wri
       (or-quiet _ Early writer (λ i l. q i l .early)
       ∙ or-quiet _ Orphan writer (λ i l. q i l .orphan)
       ∙ or-quiet _ Twin writer (λ i l. q i l .twin)
+      ∙ or-quiet _ Reopening [] (λ i l. q i l .again [])
       ∙ or-quiet _ Span [] (λ i l. q i l .span [])
       ∙ or-quiet _ Kind [] (λ i l. q i l .kind []))
-      ∙ rows-examined [] []
+      ∙ rows-examined []

@@ -2,3 +2,4 @@
 pub mod Shows
 pub mod Silence
 pub mod Chain
+pub mod Openings

@@ -1,4 +1,4 @@
-// Tests 4 to 9 of a list of rows, by the position of each row's write.
+// Tests 4 to 9 of a list of rows, 20 among them, by the position of each row's write.
 use history::Answer;
 use history::Op;
 use history::Row;
@@ -9,16 +9,17 @@ ghost use Prim.Native.Nat.{_<_};
 ghost use mathlib.Core.List.{map};
 ghost use lib.Dec.{ltb, leb};
 ghost use lib.ListN.{length, getD};
-ghost use Rattle.history.specs.Table.{opAt, isWrite, isRead, precedes};
+ghost use Rattle.history.specs.Table.{opAt, isOpening, isWrite, isRead, precedes};
 ghost use Rattle.history.specs.Answer.{number, firstMet, passed, orTest};
 ghost use Rattle.history.specs.Screen.{wrongKind, wrongSpan};
 ghost use Rattle.writers.specs.Writers.{Within, writerOf, rowOp};
-ghost use Rattle.conditions.specs.Tests.{codeOf, rowTests, shows, lowestAt, shownTest, Quiet, AllQuiet, Listed};
+ghost use Rattle.conditions.specs.Tests.{codeOf, rowTests, firstOpening, shows, lowestAt, shownTest, Quiet, AllQuiet, Listed};
 
 // The tests that look at each row of the register, in their sequence.
 enum RowTest {
     Kind,
     Span,
+    Reopening,
     Twin,
     Orphan,
     Early,
@@ -30,6 +31,9 @@ fn wrong_kind(o: Op) -> bool
     if o.kind == Op::WRITE {
         return false;
     }
+    if o.kind == Op::OPENING {
+        return false;
+    }
     o.kind != Op::READ
 }
 
@@ -39,7 +43,37 @@ fn wrong_span(o: Op) -> bool
     if o.finish < o.start {
         return true;
     }
-    Row::LARGEST_STAMP < o.finish
+    if Row::LARGEST_STAMP < o.finish {
+        return true;
+    }
+    o.strays()
+}
+
+// The position of the first opening among the rows; their number where there is none.
+fn first_opening(table: &[u64], rows: &[u64]) -> usize
+    requires { ⌜ Within (now table) (now rows) ⌝ }
+    ensures { λ r. ⌜ r ≡ firstOpening (now (table .entry)) (now (rows .entry)) ⌝ }
+{
+    let mut i: usize = 0;
+    while i < rows.len() {
+        let o = Op::at(table, rows[i] as usize);
+        if o.is_opening() {
+            return i;
+        }
+        i += 1;
+    }
+    i
+}
+
+// Whether the i-th row is an opening, and not the first. An opening is sought only here, so that two of them end the search.
+fn reopens(table: &[u64], rows: &[u64], o: Op, i: usize) -> bool
+    requires { ⌜ Within (now table) (now rows) ⌝ }
+    ensures { λ r. ⌜ r ≡ (isOpening o && ltb (firstOpening (now (table .entry)) (now (rows .entry))) i) ⌝ }
+{
+    if o.is_opening() {
+        return first_opening(table, rows) < i;
+    }
+    false
 }
 
 // The number at a place; 0 past the end.
@@ -93,6 +127,7 @@ fn meets(table: &[u64], rows: &[u64], column: &[u64], test: RowTest, i: usize) -
     match test {
         RowTest::Kind => wrong_kind(o),
         RowTest::Span => wrong_span(o),
+        RowTest::Reopening => reopens(table, rows, o, i),
         RowTest::Twin => twin(o, entry(column, i) as usize, i),
         RowTest::Orphan => orphan(o, entry(column, i) as usize, rows.len()),
         RowTest::Early => early(table, rows, o, entry(column, i) as usize),
@@ -121,6 +156,7 @@ fn code(test: RowTest) -> u64
     match test {
         RowTest::Kind => Answer::BAD_KIND,
         RowTest::Span => Answer::BAD_SPAN,
+        RowTest::Reopening => Answer::SECOND_OPENING,
         RowTest::Twin => Answer::TWIN_WRITE,
         RowTest::Orphan => Answer::ORPHAN_READ,
         RowTest::Early => Answer::EARLY_READ,
@@ -152,6 +188,9 @@ fn quiet(table: &[u64], rows: &[u64], writer: &[u64], i: usize) -> bool
         return false;
     }
     if wrong_span(o) {
+        return false;
+    }
+    if reopens(table, rows, o, i) {
         return false;
     }
     let w = entry(writer, i) as usize;
@@ -191,7 +230,8 @@ pub fn test_rows(table: &[u64], rows: &[u64], writer: &[u64]) -> Answer
     }
     let kind = or_test(table, rows, rows, none, RowTest::Kind);
     let span = or_test(table, rows, rows, kind, RowTest::Span);
-    let twin = or_test(table, rows, writer, span, RowTest::Twin);
+    let again = or_test(table, rows, rows, span, RowTest::Reopening);
+    let twin = or_test(table, rows, writer, again, RowTest::Twin);
     let orphan = or_test(table, rows, writer, twin, RowTest::Orphan);
     or_test(table, rows, writer, orphan, RowTest::Early)
 }

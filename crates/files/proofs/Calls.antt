@@ -9,9 +9,9 @@ use lib.ListN.{length, drop}
 use Rattle.history.specs.declared.Answer.{Answer}
 use Rattle.history.specs.Answer.{firstMet, passed}
 use Rattle.records.specs.Records.{begun}
-use Rattle.files.specs.Files.{fileAnswer, fileTests, roomTest, after, readTests, readAnswer}
+use Rattle.files.specs.Files.{Whole, fileAnswer, fileTests, roomTest, after, readTests, readAnswer}
 use Rattle.files.proofs.Meeting.{met-stop, met-on}
-use Rattle.files.proofs.Passing.{file-coded}
+use Rattle.files.proofs.Passing.{file-coded, code-whole, whole-answer}
 
 -- the lent list, by the answer's code
 pub after-refused : (a : Answer) (result old : List ℕ) → a .code ≢ 0 → after a result old ≡ old
@@ -29,6 +29,10 @@ module _ (bs table : List ℕ) (found : Answer) (e : found ≡ fileAnswer bs) wh
   pub read-refused : found .code ≢ 0 → found ≡ readAnswer bs table
   unfolding readAnswer readTests
   read-refused n = e ∙ sym (met-stop (fileTests bs) (roomTest (begun bs * 5) (length table) ∷ []) (passed (begun bs)) refl (λ z. n (code-of e z)))
+
+  -- a file that passed: what it is, and the count of its rows
+  pub read-passed : found .code ≡ 0 → Whole bs × (found .rows ≡ begun bs)
+  read-passed z = let w = code-whole bs (code-of (sym e) z) in (w, ap (λ (a : Answer). a .rows) (e ∙ whole-answer bs w))
 
   -- else the test of the room has the last word
   pub read-judged : found .code ≡ 0 → (answer : Answer) (rows : ℕ) → rows ≡ begun bs → answer ≡ firstMet (roomTest (rows * 5) (length table) ∷ []) (passed rows) →

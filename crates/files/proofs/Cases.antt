@@ -5,11 +5,11 @@ use mathlib.Core.Path.{_≡_, refl}
 use mathlib.Core.List.{List, [], _∷_, _++_, map, flatMap}
 use Rattle.lists.specs.Lists.{from, first}
 use Rattle.history.specs.declared.Answer.{Answer}
-use Rattle.history.specs.Table.{opAt, isWrite, isRead}
+use Rattle.history.specs.Table.{opAt, isOpening, isWrite, isRead}
 use Rattle.history.specs.Answer.{firstMet, passed, refusedBy}
-use Rattle.history.specs.Screen.{wrongKind}
-use Rattle.records.specs.Records.{littleEndian, valueOf, field, recordAt, recordOf, tableOf, fileOf}
-use Rattle.files.specs.Files.{recordTests, fileTests, readTests, readAnswer, readTable, opsOf, writeTests, writeAnswer, writeBytes}
+use Rattle.history.specs.Screen.{wrongKind, strayOpening}
+use Rattle.records.specs.Records.{littleEndian, valueOf, field, offsetsFrom, offsets, recordFrom, recordOf, tableOf, fileOf}
+use Rattle.files.specs.Files.{mismatched, recordTests, fileTests, readTests, readAnswer, readTable, opsOf, writeTests, writeAnswer, writeBytes}
 
 -- What a call gives: its answer, and the lent list after it.
 pub record Gives : Type 0 where
@@ -42,6 +42,13 @@ whole kind =
     ++ 3 ∷ 0 ∷ 0 ∷ 0 ∷ 0 ∷ 0 ∷ 0 ∷ 0 ∷ []
     ++ 0 ∷ 0 ∷ 0 ∷ 0 ∷ 0 ∷ 0 ∷ 0 ∷ 1 ∷ []
 
+-- a short one: register 7, value 258
+abbrev short : ℕ → List ℕ
+short kind = 18 ∷ 0 ∷ kind ∷ 0 ∷ [] ++ 7 ∷ 0 ∷ 0 ∷ 0 ∷ 0 ∷ 0 ∷ 0 ∷ 0 ∷ [] ++ 2 ∷ 1 ∷ 0 ∷ 0 ∷ 0 ∷ 0 ∷ 0 ∷ 0 ∷ []
+
+abbrev opening : List ℕ
+opening = 7 ∷ 3 ∷ 258 ∷ 0 ∷ 0 ∷ []
+
 abbrev row : ℕ → List ℕ
 row kind = 7 ∷ kind ∷ 258 ∷ 3 ∷ 72057594037927936 ∷ []
 
@@ -51,15 +58,25 @@ cases =
     ∷ reads (34 ∷ []) (refusedBy 16 0) lent
     ∷ reads (35 ∷ 0 ∷ []) (refusedBy 17 0) lent
     ∷ reads (34 ∷ 0 ∷ []) (refusedBy 16 0) lent
+    ∷ reads (18 ∷ 0 ∷ []) (refusedBy 16 0) lent
     ∷ reads (whole 3) (refusedBy 17 0) lent
+    ∷ reads (short 1) (refusedBy 17 0) lent
+    ∷ reads (short 2) (refusedBy 17 0) lent
     ∷ reads (whole 1 ++ 34 ∷ []) (refusedBy 16 36) lent
+    ∷ reads (short 3 ++ 34 ∷ []) (refusedBy 16 20) lent
+    ∷ reads (short 3 ++ whole 1 ++ whole 4) (refusedBy 17 56) lent
     ∷ reads (whole 1 ++ whole 2) (refusedBy 10 0) lent
     ∷ reads (whole 2) (passed 1) (row 2 ++ 96 ∷ [])
+    ∷ reads (short 3) (passed 1) (opening ++ 96 ∷ [])
     ∷ writes (row 2) (whole 1 ++ 97 ∷ []) (passed 1) (whole 2 ++ 97 ∷ [])
-    ∷ writes (row 1 ++ row 3) lent (refusedBy 4 1) lent
+    ∷ writes opening (short 1 ++ 97 ∷ []) (passed 1) (short 3 ++ 97 ∷ [])
+    ∷ writes (opening ++ row 1) (whole 1 ++ short 1 ++ 97 ∷ []) (passed 2) (short 3 ++ whole 1 ++ 97 ∷ [])
+    ∷ writes (row 3 ++ row 4) lent (refusedBy 4 1) lent
+    ∷ writes (row 1 ++ row 3) lent (refusedBy 5 1) lent
     ∷ writes (row 1) lent (refusedBy 10 0) lent
+    ∷ writes opening lent (refusedBy 10 0) lent
     ∷ []
 
 pub known-files : map (λ x. x .given) cases ≡ map (λ x. x .known) cases
-unfolding cases readAnswer readTable readTests fileTests recordTests writeAnswer writeBytes writeTests opsOf firstMet flatMap from first wrongKind isWrite isRead opAt littleEndian valueOf field recordAt recordOf tableOf fileOf
+unfolding cases readAnswer readTable readTests fileTests recordTests mismatched writeAnswer writeBytes writeTests opsOf firstMet flatMap from first wrongKind strayOpening isOpening isWrite isRead opAt littleEndian valueOf field offsetsFrom offsets recordFrom recordOf tableOf fileOf
 known-files = refl

@@ -1,4 +1,4 @@
--- The loop that fills a lent list with parts of one length.
+-- The loop that fills a lent list with parts, one behind the other.
 -- Assumes nothing.
 use Prim.Native.Nat.{ℕ, _+_, _*_, _≤_, _<_}
 use mathlib.Core.Path.{_≡_, refl, sym, ap, _∙_}
@@ -25,16 +25,21 @@ module _ (g : ℕ → List ℕ) (old : List ℕ) (n : ℕ) where
     pub fill-long : length l ≡ length old
     fill-long = ap length (f .stored) ∙ length-sets old 0 (blocks g i)
 
-    pub fill-more : (size : ℕ) → ((k : ℕ) → length (g k) ≡ size) → i < n → (m : List ℕ) → m ≡ sets l (i * size) (g i) → Filling g old n (i + 1) m
-    fill-more size each h m e =
+    -- one part more, behind those before
+    pub fill-behind : i < n → (at : ℕ) → at ≡ length (blocks g i) → (m : List ℕ) → m ≡ sets l at (g i) → Filling g old n (i + 1) m
+    fill-behind h at a m e =
         record {
           within = omega arith;
           stored =
               e
-              ∙ ap (λ (x : List ℕ). sets x (i * size) (g i)) (f .stored)
-              ∙ sets-on (blocks g i) (g i) old 0 (i * size) (omega (arith, length-blocks g size each i))
+              ∙ ap (λ (x : List ℕ). sets x at (g i)) (f .stored)
+              ∙ sets-on (blocks g i) (g i) old 0 at (omega arith)
               ∙ ap (sets old 0) (sym (blocks-more g i));
         }
+
+    -- the same of parts of one length
+    pub fill-more : (size : ℕ) → ((k : ℕ) → length (g k) ≡ size) → i < n → (m : List ℕ) → m ≡ sets l (i * size) (g i) → Filling g old n (i + 1) m
+    fill-more size each h m e = fill-behind h (i * size) (sym (length-blocks g size each i)) m e
 
     pub fill-end : n ≤ i → length (blocks g n) ≤ length old → l ≡ blocks g n ++ drop (length (blocks g n)) old
     fill-end h r =

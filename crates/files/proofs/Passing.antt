@@ -3,7 +3,7 @@
 use Prim.Native.Nat.{ℕ, zero, suc, _+_, _*_, _%_, _^_, _≤_, _<_}
 use mathlib.Core.Path.{_≡_, refl, sym, ap, _∙_}
 use mathlib.Core.Logic.{_≢_, _⊎_, inl, inr}
-use mathlib.Core.Bool.{Bool, true, false, not, _||_}
+use mathlib.Core.Bool.{Bool, true, false, cond, not, _||_}
 use mathlib.Core.List.{List, [], _∷_, _++_, map, List·Memᴰ as In, List·Memᴰ·head as here, List·Memᴰ·tail as there}
 use native.Mathlib.Omega.{arith}
 use borrow.Author.Tests.{not-false, eqb-true, eqb-false, eq-eqb, ne-eqb, ltb-false, le-ltb, leb-false, lt-leb}
@@ -11,39 +11,49 @@ use lib.Dec.{eqb, leb}
 use lib.ListN.{length}
 use Rattle.lists.specs.declared.Found.the-variants.{At, Nothing}
 use Rattle.lists.specs.Lists.{upTo}
-use Rattle.lists.proofs.Tests.{told-true, told-or}
+use Rattle.lists.proofs.Tests.{told-true, told-or, told-eqb, or-false}
 use Rattle.lists.proofs.Members.{first-cons-hit, first-cons-miss, nothing-none, none-nothing}
 use Rattle.lists.proofs.Maps.{in-map, map-in, in-flat}
 use Rattle.lists.proofs.Ranges.{below-in, in-below}
 use Rattle.history.specs.declared.Op.{Op}
-use Rattle.history.specs.Table.{largestCount, cell, operation, opAt, rowCount, isWrite, isRead}
+use Rattle.history.specs.Table.{largestCount, cell, operation, opAt, rowCount, isOpening, isWrite, isRead}
 use Rattle.history.specs.Answer.{number, overfull, strange-record, Test, lowestRow, refusedOr, firstMet, passed}
-use Rattle.history.specs.Screen.{wrongKind}
-use Rattle.history.proofs.Operations.{told-write, told-read}
+use Rattle.history.specs.Screen.{wrongKind, strayOpening}
 use Rattle.history.proofs.Refusals.{NoFault, Coded, coded-append, no-fault-append, no-fault-left, no-fault-right, code-no-fault, no-fault-answer, if-so, if-not}
-use Rattle.records.specs.Records.{field, begun, recordAt}
-use Rattle.files.specs.Files.{atRecord, left, recordTests, fileTests, fileAnswer, roomTest, readTests, readAnswer, opsOf, writeTests, writeAnswer}
+use Rattle.records.specs.Records.{field, bodyLength, begun, offset, recordFrom, fileOf, Stands}
+use Rattle.records.proofs.Records.{least-length}
+use Rattle.files.specs.Files.{Whole, atRecord, left, mismatched, recordTests, testsAt, fileTests, fileAnswer, roomTest, readTests, readAnswer, opsOf, writeTests, writeAnswer}
 use Rattle.files.proofs.Meeting.{met-stop, coded-in, no-fault-flat, flat-no-fault}
 
--- The bytes are at most 1,024 whole records of a right kind.
-pub record Whole (bs : List ℕ) : Type 0 where
-  pub size : length bs ≡ begun bs * 36
-  pub few : begun bs ≤ largestCount
-  pub lengths : (i : ℕ) → i < begun bs → field bs (i * 36) 2 ≡ 34
-  pub kinds : (i : ℕ) → i < begun bs → wrongKind (operation (recordAt bs i) i) ≡ false
-
--- The numbers are at most 1,024 whole rows of a right kind.
+-- The numbers are at most 1,024 whole rows of a right kind, and no opening has another stamp than 0.
 pub record Tabular (t : List ℕ) : Type 0 where
   pub size : length t ≡ rowCount t * 5
   pub few : rowCount t ≤ largestCount
   pub kinds : (i : ℕ) → i < rowCount t → wrongKind (opAt t i) ≡ false
+  pub stamps : (i : ℕ) → i < rowCount t → strayOpening (opAt t i) ≡ false
 
 -- a right kind fits into two bytes
 pub kind-small : (o : Op) → wrongKind o ≡ false → o .kind < 256 ^ 2
-unfolding wrongKind
-kind-small o e = go (told-true (told-or (told-write o) (told-read o)) (not-false (isWrite o || isRead o) e))
+unfolding wrongKind isWrite isOpening isRead
+kind-small o e = go (told-true (told-or (told-or (told-eqb (o .kind) 1) (told-eqb (o .kind) 3)) (told-eqb (o .kind) 2)) (not-false (isWrite o || isRead o) e))
   where
-    go : (o .kind ≡ 1) ⊎ (o .kind ≡ 2) → o .kind < 256 ^ 2
+    go : ((o .kind ≡ 1) ⊎ (o .kind ≡ 3)) ⊎ (o .kind ≡ 2) → o .kind < 256 ^ 2
+    go (inl (inl k)) = omega arith
+    go (inl (inr k)) = omega arith
+    go (inr k) = omega arith
+
+-- what the kinds and lengths are that go together
+body-known : (size kind : ℕ) → size ≡ bodyLength kind → not (eqb size 34 || eqb size 18) ≡ false
+body-known size kind e = rw e (go (eqb kind 3))
+  where
+    go : (b : Bool) → not (eqb (cond b 18 34) 34 || eqb (cond b 18 34) 18) ≡ false
+    go true = refl
+    go false = refl
+
+pub known-body : (size : ℕ) → not (eqb size 34 || eqb size 18) ≡ false → 18 ≤ size
+known-body size e = go (told-true (told-or (told-eqb size 34) (told-eqb size 18)) (not-false _ e))
+  where
+    go : (size ≡ 34) ⊎ (size ≡ 18) → 18 ≤ size
     go (inl k) = omega arith
     go (inr k) = omega arith
 
@@ -56,77 +66,87 @@ at-not n b e = rw e
 
 -- The codes of the tests at the records: 16, 17 and 2.
 module _ (P : ℕ → Type 0) (cut : P 16) (strange : P 17) (over : P 2) (bs : List ℕ) where
-  record-codes : (n : ℕ) (x : Test) → In x (recordTests bs n) → P (number (x .code))
+  record-codes : (n at : ℕ) (x : Test) → In x (recordTests bs n at) → P (number (x .code))
   unfolding recordTests
-  record-codes n x (here e) = rw e cut
-  record-codes n x (there (here e)) = rw e strange
-  record-codes n x (there (there (here e))) = rw e cut
-  record-codes n x (there (there (there (here e)))) = rw e strange
-  record-codes n x (there (there (there (there (here e))))) = rw e over
+  record-codes n at x (here e) = rw e cut
+  record-codes n at x (there (here e)) = rw e strange
+  record-codes n at x (there (there (here e))) = rw e cut
+  record-codes n at x (there (there (there (here e)))) = rw e strange
+  record-codes n at x (there (there (there (there (here e))))) = rw e over
 
   pub file-codes : (x : Test) → In x (fileTests bs) → P (number (x .code))
   unfolding fileTests
-  file-codes x m = let k = in-flat (recordTests bs) (upTo (begun bs)) m in record-codes (k .0) x (k .2)
+  file-codes x m = let k = in-flat (testsAt bs) (upTo (begun bs)) m in record-codes (k .0) (offset bs (k .0)) x (k .2)
 
-pub record-coded : (bs : List ℕ) (n : ℕ) → Coded (recordTests bs n)
+pub record-coded : (bs : List ℕ) (n at : ℕ) → Coded (recordTests bs n at)
 unfolding recordTests
-record-coded bs n = omega arith
+record-coded bs n at = omega arith
 
 pub file-coded : (bs : List ℕ) → Coded (fileTests bs)
 file-coded bs = coded-in (fileTests bs) (file-codes (λ c. c ≢ 0) (λ e. omega arith) (λ e. omega arith) (λ e. omega arith) bs)
 
 -- A file that passes, both ways.
 module _ (bs : List ℕ) where
-  abbrev Passes : ℕ → Type 0
-  Passes i = (field bs (i * 36) 2 ≡ 34) × (36 ≤ left bs i) × (wrongKind (operation (recordAt bs i) i) ≡ false) × (i < largestCount)
+  -- at one record
+  pub record Passes (i at : ℕ) : Type 0 where
+    pub stands : Stands bs at
+    pub kind : wrongKind (operation (recordFrom bs at) i) ≡ false
+    pub few : i < largestCount
 
-  passes : (i : ℕ) → NoFault (recordTests bs i) → Passes i
-  unfolding recordTests
-  passes i h = (
-    eqb-true (field bs (i * 36) 2) 34 (not-false _ (at-so i _ (h .1 .0))),
-    ltb-false (left bs i) 36 (at-so i _ (h .1 .1 .0)),
-    at-so i _ (h .1 .1 .1 .0),
-    leb-false largestCount i (at-so i _ (h .1 .1 .1 .1 .0)),
-  )
+  pub passes : (i at : ℕ) → NoFault (recordTests bs i at) → Passes i at
+  unfolding recordTests mismatched recordFrom
+  passes i at h =
+      let size = field bs at 2 in
+      let kind = field bs (at + 2) 2 in
+      let fit = or-false (wrongKind (operation (recordFrom bs at) i)) (not (eqb size (bodyLength kind))) (at-so at _ (h .1 .1 .1 .0)) in
+      let same : size ≡ bodyLength kind = eqb-true size (bodyLength kind) (not-false _ (fit .1)) in
+      let long : 2 + size ≤ left bs at = ltb-false (left bs at) (2 + size) (at-so at _ (h .1 .1 .0)) in
+      record {
+        stands = record { size = same; whole = omega (arith, same, known-body size (at-so at _ (h .1 .0))) };
+        kind = fit .0;
+        few = leb-false largestCount i (at-so at _ (h .1 .1 .1 .1 .0));
+      }
+
+  pub passed-tests : (i at : ℕ) → Passes i at → NoFault (recordTests bs i at)
+  unfolding recordTests mismatched recordFrom
+  passed-tests i at p =
+      let size = field bs at 2 in
+      let kind = field bs (at + 2) 2 in
+      let s = p .stands in
+      let few = least-length kind in
+      let fit : (wrongKind (operation (recordFrom bs at) i) || not (eqb size (bodyLength kind))) ≡ false = rw (p .kind) (ap not (eq-eqb size (bodyLength kind) (s .size))) in (
+        at-not at _ (ne-eqb (left bs at) 1 (λ e. omega (arith, s .whole))),
+        (
+          at-not at _ (body-known size kind (s .size)),
+          (
+            at-not at _ (le-ltb (left bs at) (2 + size) (omega (arith, s .whole, s .size))),
+            (
+              at-not at _ fit,
+              (at-not at _ (lt-leb largestCount i (p .few)), tt),
+            ),
+          ),
+        ),
+      )
 
   pub file-whole : NoFault (fileTests bs) → Whole bs
   unfolding fileTests
   file-whole h =
-      let each : (i : ℕ) → i < begun bs → Passes i = λ i l. passes i (flat-no-fault (recordTests bs) (upTo (begun bs)) h (below-in (begun bs) l)) in
+      let each : (i : ℕ) → i < begun bs → Passes i (offset bs i) = λ i l. passes i (offset bs i) (flat-no-fault (testsAt bs) (upTo (begun bs)) h (below-in (begun bs) l)) in
       record {
-        size = go (begun bs) refl each;
         few = few (begun bs) refl each;
-        lengths = λ i l. each i l .0;
-        kinds = λ i l. each i l .2;
+        stands = λ i l. each i l .stands;
+        kinds = λ i l. each i l .kind;
       }
     where
-      go : (n : ℕ) → begun bs ≡ n → ((i : ℕ) → i < begun bs → Passes i) → length bs ≡ begun bs * 36
-      go zero e each = omega arith
-      go (suc n) e each = let p = each n (omega arith) .1 in omega arith
-
-      few : (n : ℕ) → begun bs ≡ n → ((i : ℕ) → i < begun bs → Passes i) → begun bs ≤ largestCount
+      few : (n : ℕ) → begun bs ≡ n → ((i : ℕ) → i < begun bs → Passes i (offset bs i)) → begun bs ≤ largestCount
       few zero e each = omega arith
-      few (suc n) e each = let p = each n (omega arith) .3 in omega arith
+      few (suc n) e each = let p = each n (omega arith) .few in omega arith
 
   pub whole-file : Whole bs → NoFault (fileTests bs)
-  unfolding fileTests recordTests
-  whole-file w = no-fault-flat (recordTests bs) (upTo (begun bs)) (λ i m. go i (in-below (begun bs) m))
-    where
-      go : (i : ℕ) → i < begun bs → NoFault (recordTests bs i)
-      go i l =
-          let long : 36 ≤ left bs i = omega (arith, w .size) in (
-            at-not i _ (ne-eqb (left bs i) 1 (λ e. omega arith)),
-            (
-              at-not i _ (ap not (eq-eqb (field bs (i * 36) 2) 34 (w .lengths i l))),
-              (
-                at-not i _ (le-ltb (left bs i) 36 long),
-                (
-                  at-not i _ (w .kinds i l),
-                  (at-not i _ (lt-leb largestCount i (omega (arith, w .few))), tt),
-                ),
-              ),
-            ),
-          )
+  unfolding fileTests
+  whole-file w =
+      no-fault-flat (testsAt bs) (upTo (begun bs))
+      (λ i m. let l = in-below (begun bs) m in passed-tests i (offset bs i) (record { stands = w .stands i l; kind = w .kinds i l; few = omega (arith, w .few) }))
 
   pub code-whole : fileAnswer bs .code ≡ 0 → Whole bs
   code-whole e = file-whole (code-no-fault (fileTests bs) (file-coded bs) (passed (begun bs)) e)
@@ -140,7 +160,7 @@ module _ (t : List ℕ) (room : ℕ) where
   unfolding writeTests
   write-coded = omega arith
 
-  pub table-tabular : NoFault (writeTests t room) → Tabular t × (rowCount t * 36 ≤ room)
+  pub table-tabular : NoFault (writeTests t room) → Tabular t × (length (fileOf t) ≤ room)
   unfolding writeTests opsOf
   table-tabular h =
       let whole : length t % 5 ≡ 0 = eqb-true (length t % 5) 0 (not-false _ (if-so _ (h .0))) in (
@@ -148,51 +168,64 @@ module _ (t : List ℕ) (room : ℕ) where
           size = omega arith;
           few = ltb-false largestCount (rowCount t) (if-so _ (h .1 .0));
           kinds = λ i l. nothing-none (λ o. o .row) wrongKind (opsOf t) (h .1 .1 .0) (opAt t i) (map-in (opAt t) (below-in (rowCount t) l));
+          stamps = λ i l. nothing-none (λ o. o .row) strayOpening (opsOf t) (h .1 .1 .1 .0) (opAt t i) (map-in (opAt t) (below-in (rowCount t) l));
         },
-        ltb-false room (rowCount t * 36) (if-so _ (h .1 .1 .1 .0)),
+        ltb-false room (length (fileOf t)) (if-so _ (h .1 .1 .1 .1 .0)),
       )
 
-  pub tabular-table : Tabular t → rowCount t * 36 ≤ room → NoFault (writeTests t room)
+  none : (p : Op → Bool) → ((i : ℕ) → i < rowCount t → p (opAt t i) ≡ false) → lowestRow p (opsOf t) ≡ Nothing
+  unfolding opsOf
+  none p h = none-nothing (λ o. o .row) p (opsOf t) (λ o m. let k = in-map (opAt t) (upTo (rowCount t)) m in rw (k .2) (h (k .0) (in-below (rowCount t) (k .1))))
+
+  pub tabular-table : Tabular t → length (fileOf t) ≤ room → NoFault (writeTests t room)
   unfolding writeTests opsOf
   tabular-table w r = (
     if-not _ (ap not (eq-eqb (length t % 5) 0 (omega (arith, w .size)))),
     (
       if-not _ (le-ltb largestCount (rowCount t) (w .few)),
       (
-        none-nothing (λ o. o .row) wrongKind (opsOf t) (λ o m. let k = in-map (opAt t) (upTo (rowCount t)) m in rw (k .2) (w .kinds (k .0) (in-below (rowCount t) (k .1)))),
-        (if-not _ (le-ltb room (rowCount t * 36) r), tt),
+        none wrongKind (w .kinds),
+        (
+          none strayOpening (w .stamps),
+          (if-not _ (le-ltb room (length (fileOf t)) r), tt),
+        ),
       ),
     ),
   )
 
-pub write-tabular : (t out : List ℕ) → writeAnswer t out .code ≡ 0 → Tabular t × (rowCount t * 36 ≤ length out)
+pub write-tabular : (t out : List ℕ) → writeAnswer t out .code ≡ 0 → Tabular t × (length (fileOf t) ≤ length out)
 unfolding writeAnswer
 write-tabular t out e = table-tabular t (length out) (code-no-fault (writeTests t (length out)) (write-coded t (length out)) (passed (rowCount t)) e)
 
-pub tabular-write : (t out : List ℕ) → Tabular t → rowCount t * 36 ≤ length out → writeAnswer t out ≡ passed (rowCount t)
+pub tabular-write : (t out : List ℕ) → Tabular t → length (fileOf t) ≤ length out → writeAnswer t out ≡ passed (rowCount t)
 unfolding writeAnswer
 tabular-write t out w r = no-fault-answer (writeTests t (length out)) (passed (rowCount t)) (tabular-table t (length out) w r)
 
--- The test of a record's kind, and of a row's, as the code makes it.
-pub kind-test : (bs : List ℕ) (n k : ℕ) (b : Bool) → k ≡ field bs (n * 36 + 2) 2 → not (eqb k 1 || eqb k 2) ≡ b → wrongKind (operation (recordAt bs n) n) ≡ b
-unfolding wrongKind isWrite isRead recordAt
-kind-test bs n k b e h = rw (← e) h
+-- The test of a record's kind as the code makes it.
+pub kind-test : (bs : List ℕ) (n at size kind : ℕ) (b : Bool) → size ≡ field bs at 2 → kind ≡ field bs (at + 2) 2 →
+    (not (eqb kind 1 || eqb kind 3 || eqb kind 2) || not (eqb size (bodyLength kind))) ≡ b → mismatched (field bs at 2) (operation (recordFrom bs at) n) ≡ b
+unfolding mismatched wrongKind isWrite isOpening isRead recordFrom
+kind-test bs n at size kind b s e h = rw (← e, ← s) h
 
--- at a record of a right length the kind and the record's number are left
-pub past-length : (bs : List ℕ) (n rows : ℕ) → left bs n ≢ 1 → field bs (n * 36) 2 ≡ 34 → 36 ≤ left bs n →
-    firstMet (recordTests bs n) (passed rows)
-    ≡ refusedOr strange-record (atRecord n (wrongKind (operation (recordAt bs n) n))) (refusedOr overfull (atRecord n (leb largestCount n)) (passed rows))
+-- at a record of a known length that is all there, the kind and the record's number are left
+pub past-length : (bs : List ℕ) (n at rows : ℕ) → left bs at ≢ 1 → not (eqb (field bs at 2) 34 || eqb (field bs at 2) 18) ≡ false → 2 + field bs at 2 ≤ left bs at →
+    firstMet (recordTests bs n at) (passed rows)
+    ≡ refusedOr strange-record (atRecord at (mismatched (field bs at 2) (operation (recordFrom bs at) n))) (refusedOr overfull (atRecord at (leb largestCount n)) (passed rows))
 unfolding firstMet recordTests
-past-length bs n rows one body long = rw (ne-eqb (left bs n) 1 one, eq-eqb (field bs (n * 36) 2) 34 body, le-ltb (left bs n) 36 long)
+past-length bs n at rows one known long = rw (ne-eqb (left bs at) 1 one, known, le-ltb (left bs at) (2 + field bs at 2) long)
 
-module _ (t : List ℕ) (i : ℕ) (r : List ℕ) where
-  pub row-hit : not (eqb (cell t i 1) 1 || eqb (cell t i 1) 2) ≡ true → lowestRow wrongKind (map (opAt t) (i ∷ r)) ≡ At i
-  unfolding wrongKind isWrite isRead opAt
-  row-hit h = first-cons-hit wrongKind (opAt t i) (map (opAt t) r) (λ o. o .row) h
+-- A test of a row as the code makes it.
+module _ (p : Op → Bool) (t : List ℕ) (i : ℕ) (r : List ℕ) where
+  pub row-hit : p (opAt t i) ≡ true → lowestRow p (map (opAt t) (i ∷ r)) ≡ At i
+  unfolding opAt
+  row-hit h = first-cons-hit p (opAt t i) (map (opAt t) r) (λ o. o .row) h
 
-  pub row-miss : not (eqb (cell t i 1) 1 || eqb (cell t i 1) 2) ≡ false → lowestRow wrongKind (map (opAt t) (i ∷ r)) ≡ lowestRow wrongKind (map (opAt t) r)
-  unfolding wrongKind isWrite isRead opAt
-  row-miss h = first-cons-miss wrongKind (opAt t i) (map (opAt t) r) (λ o. o .row) h
+  pub row-miss : p (opAt t i) ≡ false → lowestRow p (map (opAt t) (i ∷ r)) ≡ lowestRow p (map (opAt t) r)
+  row-miss h = first-cons-miss p (opAt t i) (map (opAt t) r) (λ o. o .row) h
+
+pub row-kind : (t : List ℕ) (i : ℕ) → not (eqb (cell t i 1) 1 || eqb (cell t i 1) 3 || eqb (cell t i 1) 2) ≡ wrongKind (opAt t i)
+unfolding wrongKind isWrite isOpening isRead opAt
+row-kind t i = refl
 
 -- Reading: the records, then the room.
 module _ (bs table : List ℕ) where

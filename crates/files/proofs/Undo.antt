@@ -3,23 +3,44 @@
 use Prim.Native.Nat.{ℕ, _+_, _*_, _≤_, _<_}
 use mathlib.Core.Path.{_≡_, refl, sym, ap, _∙_}
 use mathlib.Core.Logic.{_≢_}
+use mathlib.Core.Bool.{Bool, true, false, cond, not, _&&_}
 use mathlib.Core.List.{List, _++_}
 use native.Mathlib.Omega.{arith}
+use borrow.Author.Tests.{not-false, eq-eqb, eqb-true}
+use lib.Dec.{eqb}
 use lib.ListN.{length, drop}
+use Rattle.lists.proofs.Tests.{and-true}
 use Rattle.history.specs.declared.Row.{Row}
-use Rattle.history.specs.Table.{largestCount, rowAt, rowCount, operation, opAt}
+use Rattle.history.specs.declared.Op.{Op}
+use Rattle.history.specs.Table.{largestCount, rowAt, rowCount, operation, opAt, isOpening}
 use Rattle.history.specs.Answer.{number, short-list, passed}
-use Rattle.history.specs.Screen.{wrongKind}
-use Rattle.records.specs.Records.{Bytes, Words, begun, recordAt, recordOf, cells, tableOf, fileOf}
+use Rattle.history.specs.Screen.{wrongKind, strayOpening}
+use Rattle.records.specs.Records.{field, Bytes, Words, begun, offset, recordFrom, recordAt, cells, tableOf, fileOf}
 use Rattle.records.proofs.Blocks.{blocks-whole}
-use Rattle.records.proofs.Records.{Fitting, row-cells, record-length, record-row, row-record, length-table, count-table, table-row, length-file, count-file, file-record}
-use Rattle.files.specs.Files.{fileAnswer, fileTests, readAnswer, readTable, writeAnswer, writeBytes}
+use Rattle.records.proofs.Records.{Fitting, row-cells, length-table, count-table, table-row, file-again, count-file, file-row, file-stands}
+use Rattle.files.specs.Files.{Whole, fileAnswer, fileTests, readAnswer, readTable, writeAnswer, writeBytes}
 use Rattle.files.proofs.Meeting.{met-code}
 use Rattle.files.proofs.Calls.{after-fresh, code-of}
-use Rattle.files.proofs.Passing.{Whole, Tabular, kind-small, file-codes, write-tabular, tabular-write, whole-read, read-whole, read-room}
+use Rattle.files.proofs.Passing.{Tabular, kind-small, file-codes, write-tabular, tabular-write, whole-read, read-whole, read-room}
+
+-- A row read is no opening with another stamp than 0, whatever the bytes.
+read-stamps : (bs : List ℕ) (at i : ℕ) → strayOpening (operation (recordFrom bs at) i) ≡ false
+unfolding strayOpening isOpening recordFrom
+read-stamps bs at i = go (eqb (field bs (at + 2) 2) 3)
+  where
+    go : (b : Bool) → (b && not (eqb (cond b 0 (field bs (at + 20) 8)) 0 && eqb (cond b 0 (field bs (at + 28) 8)) 0)) ≡ false
+    go true = refl
+    go false = refl
 
 -- A table that passes, and its file.
 module _ (t : List ℕ) (words : Words t) (w : Tabular t) where
+  no-stamps : (o : Op) → strayOpening o ≡ false → o .kind ≡ 3 → (o .start ≡ 0) × (o .finish ≡ 0)
+  unfolding strayOpening isOpening
+  no-stamps o e k =
+      let both : (eqb (o .start) 0 && eqb (o .finish) 0) ≡ true = not-false _ (rw (eq-eqb (o .kind) 3 k) at e) in
+      let z = and-true (eqb (o .start) 0) (eqb (o .finish) 0) both in
+      (eqb-true (o .start) 0 (z .0), eqb-true (o .finish) 0 (z .1))
+
   fitting : (i : ℕ) → i < rowCount t → Fitting (rowAt t i)
   unfolding opAt
   fitting i h =
@@ -29,28 +50,29 @@ module _ (t : List ℕ) (words : Words t) (w : Tabular t) where
         value = words (i * 5 + 2);
         start = words (i * 5 + 3);
         finish = words (i * 5 + 4);
+        opening = no-stamps (opAt t i) (w .stamps i h);
       }
 
+  count : begun (fileOf t) ≡ rowCount t
+  count = count-file t (w .few) fitting
+
   again : (i : ℕ) → i < rowCount t → recordAt (fileOf t) i ≡ rowAt t i
-  again i h = record-row (fileOf t) i (rowAt t i) (file-record t i h) (fitting i h)
+  again i h = file-row t (w .few) fitting i h
 
   written-whole : Whole (fileOf t)
   unfolding opAt
   written-whole =
-      let n = count-file t in
       record {
-        size = length-file t ∙ ap (λ (k : ℕ). k * 36) (sym n);
-        few = omega (arith, n, w .few);
-        lengths = λ i h. record-length (fileOf t) i (rowAt t i) (file-record t i (omega arith));
-        kinds = λ i h. let l : i < rowCount t = omega arith in ap (λ (r : Row). wrongKind (operation r i)) (again i l) ∙ w .kinds i l;
+        few = omega (arith, count, w .few);
+        stands = file-stands t (w .few) fitting;
+        kinds = λ i h. let l : i < rowCount t = omega (arith, count) in ap (λ (r : Row). wrongKind (operation r i)) (again i l) ∙ w .kinds i l;
       }
 
   pub table-again : tableOf (fileOf t) ≡ t
   unfolding tableOf
   table-again =
-      let n = count-file t in
-      blocks-whole (λ k. cells (recordAt (fileOf t) k)) 5 (begun (fileOf t)) t (w .size ∙ ap (λ (k : ℕ). k * 5) (sym n))
-      (λ k h. let l : k < rowCount t = omega arith in row-cells t k (omega (arith, w .size)) ∙ ap cells (sym (again k l)))
+      blocks-whole (λ k. cells (recordAt (fileOf t) k)) 5 (begun (fileOf t)) t (w .size ∙ ap (λ (k : ℕ). k * 5) (sym count))
+      (λ k h. let l : k < rowCount t = omega (arith, count) in row-cells t k (omega (arith, w .size)) ∙ ap cells (sym (again k l)))
 
 -- What was written and is read again is the table.
 pub read-written : (t out table : List ℕ) → Words t → writeAnswer t out .code ≡ 0 → length t ≤ length table →
@@ -58,7 +80,7 @@ pub read-written : (t out table : List ℕ) → Words t → writeAnswer t out .c
 unfolding readTable
 read-written t out table words z h =
     let w = write-tabular t out z .0 in
-    let n = count-file t in
+    let n = count t words w in
     let a : readAnswer (fileOf t) table ≡ passed (rowCount t) =
     whole-read (fileOf t) table (written-whole t words w) (omega (arith, n, w .size)) ∙ ap passed n in
     (a, after-fresh (readAnswer (fileOf t) table) (tableOf (fileOf t)) table (code-of a refl) ∙ ap (λ (l : List ℕ). l ++ drop (length l) table) (table-again t words w))
@@ -69,18 +91,16 @@ module _ (bs : List ℕ) (bytes : Bytes bs) (w : Whole bs) where
   unfolding opAt
   read-tabular =
       let n = count-table bs in
+      let row : (i : ℕ) → i < rowCount (tableOf bs) → rowAt (tableOf bs) i ≡ recordAt bs i = λ i h. table-row bs i (omega arith) in
       record {
         size = length-table bs ∙ ap (λ (k : ℕ). k * 5) (sym n);
         few = omega (arith, n, w .few);
-        kinds = λ i h. let l : i < begun bs = omega arith in ap (λ (r : Row). wrongKind (operation r i)) (table-row bs i l) ∙ w .kinds i l;
+        kinds = λ i h. ap (λ (r : Row). wrongKind (operation r i)) (row i h) ∙ w .kinds i (omega arith);
+        stamps = λ i h. ap (λ (r : Row). strayOpening (operation r i)) (row i h) ∙ read-stamps bs (offset bs i) i;
       }
 
-  pub file-again : fileOf (tableOf bs) ≡ bs
-  unfolding fileOf
-  file-again =
-      let n = count-table bs in
-      blocks-whole (λ k. recordOf (rowAt (tableOf bs) k)) 36 (rowCount (tableOf bs)) bs (w .size ∙ ap (λ (k : ℕ). k * 36) (sym n))
-      (λ k h. let l : k < begun bs = omega arith in sym (ap recordOf (table-row bs k l) ∙ row-record bs bytes k (omega (arith, w .size)) (w .lengths k l)))
+  pub bytes-again : fileOf (tableOf bs) ≡ bs
+  bytes-again = file-again bs bytes (w .few) (w .stands)
 
 -- What was read and is written again is the bytes.
 pub written-read : (bs table out : List ℕ) → Bytes bs → readAnswer bs table .code ≡ 0 → length bs ≤ length out →
@@ -90,8 +110,8 @@ written-read bs table out bytes z h =
     let w = read-whole bs table z .0 in
     let n = count-table bs in
     let a : writeAnswer (tableOf bs) out ≡ passed (begun bs) =
-    tabular-write (tableOf bs) out (read-tabular bs bytes w) (omega (arith, n, w .size)) ∙ ap passed n in
-    (a, after-fresh (writeAnswer (tableOf bs) out) (fileOf (tableOf bs)) out (code-of a refl) ∙ ap (λ (l : List ℕ). l ++ drop (length l) out) (file-again bs bytes w))
+    tabular-write (tableOf bs) out (read-tabular bs bytes w) (omega (arith, ap length (bytes-again bs bytes w))) ∙ ap passed n in
+    (a, after-fresh (writeAnswer (tableOf bs) out) (fileOf (tableOf bs)) out (code-of a refl) ∙ ap (λ (l : List ℕ). l ++ drop (length l) out) (bytes-again bs bytes w))
 
 -- What code 0 says of the table's length.
 pub read-long : (bs table : List ℕ) → readAnswer bs table .code ≡ 0 → (length (tableOf bs) ≡ begun bs * 5) × (begun bs ≤ largestCount) × (begun bs * 5 ≤ length table)

@@ -2,7 +2,8 @@
 -- Assumes nothing.
 use Prim.Native.Nat.{ℕ, _+_, _*_, _-_, _/_, _^_, _<_}
 use mathlib.Core.Path.{_≡_}
-use mathlib.Core.Bool.{Bool, _&&_}
+use mathlib.Core.Logic.{_⊎_}
+use mathlib.Core.Bool.{Bool, true, false, not, _&&_, _||_}
 use mathlib.Core.List.{List, map}
 use lib.Dec.{ltb, eqb}
 use lib.ListN.{length, getD}
@@ -55,23 +56,27 @@ pub record Alike (t u : List ℕ) (register : ℕ) : Type 0 where
   pub kept : (i : ℕ) → RowOf t register i → RowOf u register i × (rowAt t i ≡ rowAt u i)
   pub no-more : (i : ℕ) → RowOf u register i → RowOf t register i
 
--- Kind 1 is a write, kind 2 a read (01, "The row").
+-- Kind 3 is the opening, which is counted as a write everywhere (02, W-207); kind 1 is a write, kind 2 a read (01, "The row").
+unfoldable pub isOpening : Op → Bool
+isOpening o = eqb (o .kind) 3
+
 unfoldable pub isWrite : Op → Bool
-isWrite o = eqb (o .kind) 1
+isWrite o = eqb (o .kind) 1 || isOpening o
 
 unfoldable pub isRead : Op → Bool
 isRead o = eqb (o .kind) 2
 
--- a precedes b: a finishes before b starts (01, "The row"; 000, section II.A). As a statement, and as a test.
+-- a precedes b: a finishes before b starts (01, "The row"; 000, section II.A), or a is the opening and b is not (02, W-207). As a statement,
+-- and as a test.
 abbrev pub Precedes : Op → Op → Type 0
-Precedes a b = a .finish < b .start
+Precedes a b = (a .finish < b .start) ⊎ ((isOpening a ≡ true) × (isOpening b ≡ false))
 
 unfoldable pub precedes : Op → Op → Bool
-precedes a b = ltb (a .finish) (b .start)
+precedes a b = ltb (a .finish) (b .start) || (isOpening a && not (isOpening b))
 
 -- w is the dictating write of r: the write of its value (01, "The row"; 000, section II.A). As a statement, and as a test.
 pub record Dictates (w r : Op) : Type 0 where
-  pub writes : w .kind ≡ 1
+  pub writes : isWrite w ≡ true
   pub reads : r .kind ≡ 2
   pub same : w .value ≡ r .value
 

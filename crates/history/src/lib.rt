@@ -3,7 +3,8 @@ ghost use mathlib.Core.Path.{_≡_};
 ghost use Prim.Native.Nat.{_+_, _*_, _≤_};
 ghost use lib.ListN.{length};
 ghost use lib.Dec.{eqb};
-ghost use Rattle.history.specs.Table.{rowAt, operation, opAt, bears, isWrite, isRead, precedes};
+ghost use Rattle.history.specs.Table.{rowAt, operation, opAt, bears, isOpening, isWrite, isRead, precedes};
+ghost use Rattle.history.specs.Screen.{strayOpening};
 ghost use Rattle.history.specs.Answer.{refusedBy, passed, answerAfter, listAfter};
 
 pub struct Row {
@@ -90,6 +91,8 @@ impl Op {
 
     pub const READ: u64 = 2;
 
+    pub const OPENING: u64 = 3;
+
     // The operation of a row of the table, which the caller keeps within it.
     pub fn at(table: &[u64], row: usize) -> Op
         requires { ⌜ row * 5 + 5 ≤ length (now table) ⌝ }
@@ -98,9 +101,18 @@ impl Op {
         Row::at(table, row).operation(row)
     }
 
+    pub fn is_opening(self) -> bool
+        ensures { λ r. ⌜ r ≡ isOpening self ⌝ }
+    {
+        self.kind == Op::OPENING
+    }
+
     pub fn is_write(self) -> bool
         ensures { λ r. ⌜ r ≡ isWrite self ⌝ }
     {
+        if self.kind == Op::OPENING {
+            return true;
+        }
         self.kind == Op::WRITE
     }
 
@@ -110,10 +122,29 @@ impl Op {
         self.kind == Op::READ
     }
 
+    // An opening with another stamp than 0.
+    pub fn strays(self) -> bool
+        ensures { λ r. ⌜ r ≡ strayOpening self ⌝ }
+    {
+        if self.kind != Op::OPENING {
+            return false;
+        }
+        if self.start != 0 {
+            return true;
+        }
+        self.finish != 0
+    }
+
     pub fn precedes(self, later: Op) -> bool
         ensures { λ r. ⌜ r ≡ precedes self later ⌝ }
     {
-        self.finish < later.start
+        if self.finish < later.start {
+            return true;
+        }
+        if self.kind != Op::OPENING {
+            return false;
+        }
+        later.kind != Op::OPENING
     }
 }
 
@@ -162,6 +193,8 @@ impl Answer {
     pub const HEADER_FAULT: u64 = 18;
 
     pub const UNREADABLE_CELL: u64 = 19;
+
+    pub const SECOND_OPENING: u64 = 20;
 
     // The answer with a code and a row field alone.
     pub fn refused(code: u64, row: u64) -> Answer

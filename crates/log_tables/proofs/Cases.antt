@@ -72,6 +72,8 @@ cases =
     ∷ loads (others ++ otherLine) (passed 1) (7 ∷ 2 ∷ 25 ∷ 3 ∷ 9 ∷ 96 ∷ [])
     ∷ loads reversedCopy (passed 1) (7 ∷ 2 ∷ 25 ∷ 3 ∷ 9 ∷ 96 ∷ [])
     ∷ loads (header ++ line ++ line) (refusedBy 10 0) lent
+    -- 7,o,25,3,9: an opening's stamps are loaded like any (02, W-207)
+    ∷ loads (header ++ 55 ∷ 44 ∷ 111 ∷ 44 ∷ 50 ∷ 53 ∷ 44 ∷ 51 ∷ 44 ∷ 57 ∷ 10 ∷ []) (passed 1) (7 ∷ 3 ∷ 25 ∷ 3 ∷ 9 ∷ 96 ∷ [])
     -- a line without a line feed, one of one empty cell, one of six cells: at the line
     ∷ loads (header ++ line ++ 55 ∷ []) (refusedBy 19 44) lent
     ∷ loads (header ++ line ++ 10 ∷ []) (refusedBy 19 44) lent

@@ -203,6 +203,10 @@ fn log_kinds() {
         b"register,value,start,finish,kind\n7,1,2,3,w\r\n",
     );
     loaded(
+        b"log with an opening that has stamps",
+        b"register,kind,value,start,finish\n7,o,1,0:00:00:00.002,3\n",
+    );
+    loaded(
         b"log with a start above its finish",
         b"register,kind,value,start,finish\n7,w,1,9,3\n",
     );

@@ -4,15 +4,15 @@ use Prim.Native.Nat.{ℕ, _-_, _≤_}
 use mathlib.Core.Path.{_≡_, ap, _∙_}
 use mathlib.Core.List.{List}
 use native.Mathlib.Omega.{arith}
-use lib.ListN.{length, take, length-map}
+use lib.ListN.{length, length-map}
 use Rattle.lists.proofs.Pairs.{pairs-map}
 use Rattle.lists.proofs.Cover.{no-longer-by}
 use Rattle.history.specs.declared.Op.{Op}
 use Rattle.history.specs.Table.{largestCount, history}
 use Rattle.history.proofs.Rows.{rows-few}
-use Rattle.methods.specs.Prepared.{byStart, prepared}
+use Rattle.methods.specs.Prepared.{prepared}
 use Rattle.methods.specs.Zones.{order}
-use Rattle.methods.specs.Mark.{Outcome, kOf, method, rowNumbers, written, judged}
+use Rattle.methods.specs.Mark.{Outcome, kOf, method, judged}
 use Rattle.preparation.proofs.Rows.{history-rows}
 use Rattle.meaning.specs.Marked.{Passes}
 use Rattle.meaning.proofs.Methods.{Settles, settles-order, method-settles}

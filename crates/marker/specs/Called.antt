@@ -18,6 +18,6 @@ Asked question = (question ≡ 1) ⊎ (question ≡ 2) ⊎ (question ≡ 3)
 abbrev pub judgedBy : List ℕ → ℕ → ℕ → ℕ → List ℕ → Outcome
 judgedBy t register question allowance list = judged (length (history t register)) allowance list (method question (prepared (history t register)))
 
--- the outcome of whatever register has these rows by rising start
+-- the outcome of whatever register has these rows by rising time
 abbrev pub OfRows : List ℕ → List ℕ → ℕ → ℕ → List ℕ → Outcome → Type 0
 OfRows t rows question allowance list out = (register : ℕ) → Listed t register rows → out ≡ judgedBy t register question allowance list

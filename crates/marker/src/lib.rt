@@ -96,7 +96,7 @@ fn search(
     fzf::search(start, finish, writer, last, prev, order)
 }
 
-// The mark of a screened register, from its rows by rising start and a place for each in the other slices.
+// The mark of a screened register, from its rows by rising time and a place for each in the other slices.
 fn work(
     table: &[u64],
     rows: &[u64],
@@ -134,7 +134,7 @@ fn work(
     searches::answer(found, order, rows, allowance, list)
 }
 
-// The mark of a screened register of few rows, from these by rising start.
+// The mark of a screened register of few rows, from these by rising time.
 fn mark_few(table: &[u64], rows: &[u64], question: u64, allowance: u64, list: &mut [u64]) -> Answer
     requires { ⌜ ((register : ℕ) × Listed (now table) register (now rows)) ⌝ }
     requires { ⌜ length (now rows) ≤ 32 ⌝ }
@@ -224,7 +224,7 @@ fn mark_many(table: &[u64], rows: &[u64], question: u64, allowance: u64, list: &
     )
 }
 
-// The mark of a screened register, from its rows by rising start.
+// The mark of a screened register, from its rows by rising time.
 pub fn mark_rows(
     table: &[u64],
     rows: &[u64],
@@ -261,7 +261,7 @@ fn mark_gathered(
     requires { ⌜ now rows ≡ rowsOf (now table) register ⌝ }
     ensures { λ r. ⌜ outcome r (now (list .exit)) ≡ judgedBy (now (table .entry)) register question allowance (now (list .entry)) ⌝ }
 {
-    columns::put_by_start(table, rows);
+    columns::put_by_time(table, rows);
     mark_rows(table, rows, question, allowance, list)
 }
 

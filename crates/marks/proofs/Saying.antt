@@ -97,13 +97,13 @@ module _ (t : List ℕ) (register question : ℕ) where
         record {
           decided = (λ c. absurd (neither c), λ k. absurd (n (passes k)));
           fresh-exactly = (λ c. absurd (z c), λ k. absurd (n (passes (k .0))));
-          stale-exactly = (λ c. absurd (omega (arith, l, c)), λ k. absurd (n (passes (k .0))));
-          unspent = λ c. omega (arith, l, c);
+          stale-exactly = (λ c. absurd (l .1 c), λ k. absurd (n (passes (k .0))));
+          unspent = l .0;
         }
       where
         neither : (a .code ≡ 0) ⊎ (a .code ≡ 12) → ⊥
         neither (inl c) = z c
-        neither (inr c) = omega (arith, l, c)
+        neither (inr c) = l .1 c
     outcome-said out f (is-spent p l) = absurd (omega (arith, l, within p f))
     outcome-said out f (is-stale p l n) =
         record {

@@ -10,14 +10,12 @@ use native.Mathlib.Omega.{arith}
 use native.Mathlib.Decide.{decLe}
 use lib.ListN.{length}
 use Rattle.lists.specs.Lists.{keep}
-use Rattle.lists.proofs.Tests.{true-told}
 use Rattle.lists.proofs.Members.{in-keep, keep-in}
 use Rattle.lists.proofs.Pairs.{pairs-keep}
 use Rattle.history.specs.declared.Op.{Op}
 use Rattle.history.specs.Table.{isWrite, Dictates}
 use Rattle.history.specs.Answer.{fresh, spent, stale, number}
 use Rattle.history.specs.Screen.{Screened}
-use Rattle.history.proofs.Operations.{told-write}
 use Rattle.methods.specs.Place.{otherValue, writeCount}
 use Rattle.methods.specs.Mark.{Outcome, kOf, markOf}
 use Rattle.witnesses.specs.Histories.{Reads}
@@ -78,7 +76,7 @@ module _ (size : ℕ) (h : List Op) (a : RowsRise h) where
     never-spent l = go _ (marked? size h question list a allowance)
       where
         go : (out : Outcome) → Marked size h question allowance list out → out .answer .code ≢ 11
-        go out (is-refused n z i) c = omega (arith, i, c)
+        go out (is-refused n z i) c = i .0 c
         go out (is-spent p i) c = omega (arith, l, i, always-enough (p .screened) a question)
         go out (is-stale p i n) c = omega (arith, c)
         go out (is-fresh p i k) c = omega (arith, c)
@@ -138,6 +136,7 @@ screened-keep {h = h} p c s =
       few = s .few;
       kinds = λ o m. s .kinds o (sub o m);
       spans = λ o m. s .spans o (sub o m);
+      openings = λ x y m n. s .openings x y (sub x m) (sub y n);
       values = λ x y m n. s .values x y (sub x m) (sub y n);
       written = λ r m k. let (w, i, d) = s .written r (sub r m) k in (w, keep-in p h i (c w r (dictated w r i (sub r m) d) (in-keep p h m .1)), d);
       timely = λ w r m n. s .timely w r (sub w m) (sub r n);
@@ -148,7 +147,7 @@ screened-keep {h = h} p c s =
 
     dictated : (w r : Op) → In w h → In r h → Dictates w r → Reads h w r
     dictated w r i j d =
-        record { by = record { mem = i; write = true-told (told-write w) (d .writes) }; mem = j; read = kind-read r (d .reads); same = d .same }
+        record { by = record { mem = i; write = d .writes }; mem = j; read = kind-read r (d .reads); same = d .same }
 
 module _ (size : ℕ) (h : List Op) (a : RowsRise h) (p : Op → Bool) (c : Closed p h) where
   pub fewer-fresh : (question n m : ℕ) (list after : List ℕ) → length (keep p h) ≤ length after → Enough (keep p h) question m →

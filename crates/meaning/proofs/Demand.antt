@@ -64,11 +64,11 @@ module _ (t : List ℕ) (register question allowance : ℕ) (list : List ℕ) wh
         stale-exactly = λ r f. absurd (n r);
         order = λ c. absurd (z c);
         untouched = λ c. refl;
-        no-order = λ c. absurd (omega (arith, l, c));
+        no-order = λ c. absurd (l .1 c);
         smaller = λ r. absurd (n r);
         spent-exactly = λ r. absurd (n r);
         counted = λ r. absurd (n r);
-        neither = λ r. (z, λ c. omega (arith, l, c));
+        neither = λ r. (z, l .1);
       }
   demand out e (is-spent p l) =
       record {

@@ -25,17 +25,20 @@ use Rattle.preparation.specs.Claims.{RowsRise}
 use Rattle.meaning.specs.Marked.{Passes, trialsOf, Marked, is-refused, is-spent, is-stale, is-fresh}
 use Rattle.meaning.proofs.Methods.{Settles, settles-none, settles-order, method-settles}
 
--- The codes of tests 1 to 10 are at most 10, and so is the answer's.
+-- No test gives the code of spent or of stale, and so the answer's is neither.
+abbrev Other : ℕ → Type 0
+Other code = (code ≢ 11) × (code ≢ 12)
+
 abbrev Small : List Test → Type 0
 Small [] = Unit {0}
-Small (x ∷ xs) = (number (x .code) ≤ 10) × Small xs
+Small (x ∷ xs) = Other (number (x .code)) × Small xs
 
-small-met : (xs : List Test) → Small xs → (a : Answer) → a .code ≤ 10 → firstMet xs a .code ≤ 10
+small-met : (xs : List Test) → Small xs → (a : Answer) → Other (a .code) → Other (firstMet xs a .code)
 unfolding firstMet
 small-met [] h a l = l
 small-met (x ∷ xs) h a l = go (x .fault) (small-met xs (h .1) a l)
   where
-    go : (f : Found) → firstMet xs a .code ≤ 10 → refusedOr (x .code) f (firstMet xs a) .code ≤ 10
+    go : (f : Found) → Other (firstMet xs a .code) → Other (refusedOr (x .code) f (firstMet xs a) .code)
     go (At row) k = h .0
     go Nothing k = k
 

@@ -29,8 +29,8 @@ abbrev pub trialsOf : List Op → ℕ → ℕ
 trialsOf h question = method question (prepared h) .trials
 
 pub data Marked (size : ℕ) (h : List Op) (question allowance : ℕ) (list : List ℕ) : Outcome → Type 0 where
-  -- codes 1 to 10: some test is met, and the list is as it was
-  is-refused : {a : Answer} → (Passes size h question list → ⊥) → a .code ≢ 0 → a .code ≤ 10 →
+  -- a refusal, which is neither spent nor stale: some test is met, and the list is as it was
+  is-refused : {a : Answer} → (Passes size h question list → ⊥) → a .code ≢ 0 → (a .code ≢ 11) × (a .code ≢ 12) →
       Marked size h question allowance list (record { answer = a; list = list })
   -- code 11: the walk has more trials than are allowed
   is-spent : Passes size h question list → allowance < trialsOf h question →

@@ -4,9 +4,9 @@ use Prim.Native.Nat.{ℕ}
 use mathlib.Core.List.{List, [], _∷_, flatMap}
 use Rattle.lists.specs.Lists.{from, put, keep, all, any, first}
 use Rattle.lists.specs.Sorts.{insert, sort}
-use Rattle.history.specs.Table.{opAt, bears, rowsOf, history, isWrite, isRead, precedes, dictates}
+use Rattle.history.specs.Table.{opAt, bears, rowsOf, history, isOpening, isWrite, isRead, precedes, dictates}
 use Rattle.history.specs.Answer.{firstMet}
-use Rattle.history.specs.Screen.{wrongKind, wrongSpan, repeats, rewrites, dictatedBy, unwritten, precedesWrite, tooEarly, tests}
+use Rattle.history.specs.Screen.{wrongKind, strayOpening, wrongSpan, opensToo, reopens, repeats, rewrites, dictatedBy, unwritten, precedesWrite, tooEarly, tests}
 use Rattle.atomicity.specs.Order.{writesBetween}
 use Rattle.atomicity.specs.Check.{sameRow, precedesAt, nearAt, isRow, misfits, late, tooFar, missing, orderTests, check}
 use Rattle.methods.specs.Extremes.{least, greatest}
@@ -59,6 +59,6 @@ case call outcome = record { call = call; outcome = outcome }
 
 -- What the definitions make of a call. To unfold `run` is to unfold all of them, so that antt computes the outcome.
 unfoldable pub run : Call → Outcome
-unfolding from put keep all any first insert sort flatMap opAt bears rowsOf history isWrite isRead precedes dictates firstMet wrongKind wrongSpan repeats rewrites dictatedBy unwritten precedesWrite tooEarly tests writesBetween sameRow precedesAt nearAt isRow misfits late tooFar missing orderTests check least greatest sooner rank ranked byStart shortened newFinish prepared firstFinish lastStart clear isOne inOrder zones pick choose step behind epoch candidates onemore round trials decided follow walk grow runs forwardWrites backwardWrites swap listed ofFirst putBehind viable back firstViable putBefore made items join fzf method marked judged markTests markOf mark
+unfolding from put keep all any first insert sort flatMap opAt bears rowsOf history isOpening isWrite isRead precedes dictates firstMet wrongKind strayOpening wrongSpan opensToo reopens repeats rewrites dictatedBy unwritten precedesWrite tooEarly tests writesBetween sameRow precedesAt nearAt isRow misfits late tooFar missing orderTests check least greatest sooner rank ranked byStart shortened newFinish prepared firstFinish lastStart clear isOne inOrder zones pick choose step behind epoch candidates onemore round trials decided follow walk grow runs forwardWrites backwardWrites swap listed ofFirst putBehind viable back firstViable putBefore made items join fzf method marked judged markTests markOf mark
 run (marks table question allowance list) = mark table 7 question allowance list
 run (checks table k list) = record { answer = check table 7 k list; list = list }

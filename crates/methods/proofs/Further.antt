@@ -119,7 +119,7 @@ shortensNot = W b 3 4 ++ W a 1 4 ++ R a 2 4
 
 -- Test 4 at rows 2 and 3, test 5 at row 1.
 abbrev wrongKinds : List ℕ
-wrongKinds = stranger ++ W a 5 4 ++ (7 ∷ 3 ∷ a ∷ 1 ∷ 2 ∷ []) ++ (7 ∷ 0 ∷ a ∷ 5 ∷ 6 ∷ [])
+wrongKinds = stranger ++ W a 5 4 ++ (7 ∷ 4 ∷ a ∷ 1 ∷ 2 ∷ []) ++ (7 ∷ 0 ∷ a ∷ 5 ∷ 6 ∷ [])
 
 -- Test 5 at rows 3 and 4, test 7 at row 2.
 abbrev wrongSpans : List ℕ

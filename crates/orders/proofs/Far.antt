@@ -12,13 +12,13 @@ use lib.Dec.{ltb}
 use lib.ListN.{length, getD, length-map}
 use Rattle.lists.specs.Lists.{upTo, any}
 use Rattle.lists.specs.Pairs.{Pairs, nil, cons}
-use Rattle.lists.proofs.Tests.{both, told-same, told-true, true-told, false-told, told-as, told-not, told-ltb}
+use Rattle.lists.proofs.Tests.{both, told-same, told-true, false-told, told-as, told-not, told-ltb}
 use Rattle.lists.proofs.Ranges.{below-in, in-below, from-length}
 use Rattle.lists.proofs.Maps.{map-in}
 use Rattle.lists.proofs.Images.{getD-map}
 use Rattle.lists.proofs.Cover.{in-at, at-in, no-longer}
-use Rattle.history.specs.Table.{largestCount, rowCount, history, opAt, isRead, Dictates}
-use Rattle.history.proofs.Operations.{told-write, told-read}
+use Rattle.history.specs.Table.{largestCount, rowCount, history, opAt, isWrite, isRead, Dictates}
+use Rattle.history.proofs.Operations.{told-read}
 use Rattle.history.proofs.Rows.{rows-in}
 use Rattle.writers.specs.Writers.{Within, writes, writerOf}
 use Rattle.writers.proofs.Seeking.{Seek, found, none, seek?, writes-is, is-writes}
@@ -62,12 +62,12 @@ module _ (t order : List ℕ) (o : Ordered t order) where
   unfolding opAt
   row-placed p = refl
 
-  apart : (p q : ℕ) → p < length order → q < length order → placed t order p .kind ≡ 1 → placed t order q .kind ≡ 1 → placed t order p .value ≡ placed t order q .value →
+  apart : (p q : ℕ) → p < length order → q < length order → isWrite (placed t order p) ≡ true → isWrite (placed t order q) ≡ true → placed t order p .value ≡ placed t order q .value →
       getD order p 0 < getD order q 0 → ⊥
   apart p q h k a b e l = o .screened .values (placed t order p) (placed t order q) (in-history p h) (in-history q k) (omega (arith, row-placed p, row-placed q, l)) a b e
 
   -- the write of a value stands at one position
-  only : (p q : ℕ) → p < length order → q < length order → placed t order p .kind ≡ 1 → placed t order q .kind ≡ 1 → placed t order p .value ≡ placed t order q .value → p ≡ q
+  only : (p q : ℕ) → p < length order → q < length order → isWrite (placed t order p) ≡ true → isWrite (placed t order q) ≡ true → placed t order p .value ≡ placed t order q .value → p ≡ q
   only p q h k a b e = go (decLt (getD order p 0) (getD order q 0)) (decLt (getD order q 0) (getD order p 0)) (decLt p q) (decLt q p)
     where
       go : Dec (getD order p 0 < getD order q 0) → Dec (getD order q 0 < getD order p 0) → Dec (p < q) → Dec (q < p) → p ≡ q
@@ -86,11 +86,11 @@ module _ (t order : List ℕ) (o : Ordered t order) where
     far-write e = rw e
 
     -- what stands at the writer's position
-    written : writer < p → (placed t order writer .kind ≡ 1) × (placed t order writer .value ≡ placed t order p .value)
+    written : writer < p → (isWrite (placed t order writer) ≡ true) × (placed t order writer .value ≡ placed t order p .value)
     written l = go writer (seek? (λ x. writes (placed t order p .value) (opAt t x)) order) l
       where
-        go : (q : ℕ) → Seek (λ x. writes (placed t order p .value) (opAt t x)) order q → q < p → (placed t order q .kind ≡ 1) × (placed t order q .value ≡ placed t order p .value)
-        go q (found a b c) l = let w = writes-is (placed t order p .value) (placed t order q) b in (told-true (told-write (placed t order q)) (w .0), w .1)
+        go : (q : ℕ) → Seek (λ x. writes (placed t order p .value) (opAt t x)) order q → q < p → (isWrite (placed t order q) ≡ true) × (placed t order q .value ≡ placed t order p .value)
+        go q (found a b c) l = writes-is (placed t order p .value) (placed t order q) b
         go q (none a b) l = absurd (omega arith)
 
     -- a write of the read's value before it stands at the writer's position
@@ -98,12 +98,12 @@ module _ (t order : List ℕ) (o : Ordered t order) where
     dictating q l d = go writer refl (seek? (λ x. writes (placed t order p .value) (opAt t x)) order)
       where
         passes : writes (placed t order p .value) (placed t order q) ≡ true
-        passes = is-writes (placed t order p .value) (placed t order q) (true-told (told-write (placed t order q)) (d .writes)) (d .same)
+        passes = is-writes (placed t order p .value) (placed t order q) (d .writes) (d .same)
 
         go : (w : ℕ) → w ≡ writer → Seek (λ x. writes (placed t order p .value) (opAt t x)) order w → (w < p) × (q ≡ w)
         go w e (found a b c) =
             let x = writes-is (placed t order p .value) (placed t order w) b in
-            let same = only q w (omega arith) a (d .writes) (told-true (told-write (placed t order w)) (x .0)) (d .same ∙ sym (x .1)) in
+            let same = only q w (omega arith) a (d .writes) (x .0) (d .same ∙ sym (x .1)) in
             (omega arith, same)
         go w e (none a b) = absurd (both passes (b (getD order q 0) (at-in order q (omega arith))))
 
@@ -120,7 +120,7 @@ module _ (t order : List ℕ) (o : Ordered t order) where
           (told-same (told-ltb k (writesBefore t order p - writesBefore t order writer)) (told-as (λ (n : writesBetween t order writer p < k → ⊥). over n) under (told-not (told-ltb (writesBetween t order writer p) k))))
         where
           counted : writesBefore t order p ≡ writesBefore t order writer + (1 + writesBetween t order writer p)
-          counted = rw (true-told (told-write (placed t order writer)) (written g .0)) at (before-between t order writer p g (omega arith))
+          counted = rw (written g .0) at (before-between t order writer p g (omega arith))
 
           to : writesBetween t order writer p < k → (q : ℕ) × In q (upTo p) × Near t order p k q
           to n = (writer, below-in p g, (record { writes = written g .0; reads = told-true (told-read (placed t order p)) r; same = written g .1 }, n))

@@ -5,7 +5,7 @@ use history::Row;
 use lists::Found;
 ghost use mathlib.Core.Path.{_≡_};
 ghost use mathlib.Core.Logic.{_↔_};
-ghost use mathlib.Core.Bool.{not, _||_};
+ghost use mathlib.Core.Bool.{not, _&&_, _||_};
 ghost use mathlib.Core.List.{List, map};
 ghost use Prim.Native.Nat.{ℕ, _%_, _<_, _≤_};
 ghost use lib.Dec.{ltb};
@@ -14,7 +14,7 @@ ghost use Rattle.lists.specs.Lists.{oneIf};
 ghost use Rattle.history.specs.Table.{largestCount, rowCount, opAt, history, Alike};
 ghost use Rattle.history.specs.Screen.{Screened};
 ghost use Rattle.history.specs.Answer.{number, orTest};
-ghost use Rattle.history.specs.Table.{isWrite};
+ghost use Rattle.history.specs.Table.{isOpening, isWrite};
 ghost use Rattle.writers.specs.Writers.{writerOf};
 ghost use Rattle.atomicity.specs.Check.{isRow, misfits, late, tooFar, lowestAt, check, Accepted};
 ghost use Rattle.orders.specs.Faults.{condition, codeOf, positionTest, missingTest, Ordered, Before, larger, Counted};
@@ -106,19 +106,44 @@ fn larger(a: u64, b: u64) -> u64
     a
 }
 
-// The lowest position whose row precedes one listed earlier: it finishes before the largest start so far.
+// Whether an operation precedes one of others: it finishes before their largest start, or it is the opening and one of them is not.
+fn precedes_any(o: Op, latest: u64, others: bool) -> bool
+    ensures { λ r. ⌜ r ≡ (ltb (o .finish) latest || (isOpening o && others)) ⌝ }
+{
+    if o.finish < latest {
+        return true;
+    }
+    if o.is_opening() {
+        return others;
+    }
+    false
+}
+
+// Whether one is no opening, with an operation more.
+fn or_other(others: bool, o: Op) -> bool
+    ensures { λ r. ⌜ r ≡ (others || not (isOpening o)) ⌝ }
+{
+    if others {
+        return true;
+    }
+    !o.is_opening()
+}
+
+// The lowest position whose row precedes one listed earlier, by the largest start so far and whether a row was listed that is no opening.
 fn lowest_late(table: &[u64], list: &[u64]) -> Found
     requires { ⌜ length (now table) % 5 ≡ 0 ⌝ }
     ensures { λ r. ⌜ r ≡ lowestAt (late (now (table .entry)) (now (list .entry))) (now (list .entry)) ⌝ }
 {
     let mut latest: u64 = 0;
+    let mut others = false;
     let mut p = 0;
     while p < list.len() {
-        let op = operation(table, list[p]);
-        if op.finish < latest {
+        let o = operation(table, list[p]);
+        if precedes_any(o, latest, others) {
             return Found::At(p);
         }
-        latest = larger(latest, op.start);
+        latest = larger(latest, o.start);
+        others = or_other(others, o);
         p += 1;
     }
     Found::Nothing

@@ -4,12 +4,12 @@ use mathlib.Core.Path.{_∙_}
 use mathlib.Core.List.{List}
 use Rattle.lists.proofs.Counts.{count-map, count-sort}
 use Rattle.history.specs.declared.Op.{Op}
-use Rattle.history.specs.Table.{isWrite}
+use Rattle.history.specs.Table.{isOpening, isWrite}
 use Rattle.methods.specs.Ranks.{byRank, ranked}
 use Rattle.methods.specs.Prepared.{startsFirst, byStart, short, prepared}
 use Rattle.preparation.specs.Claims.{KeepsWrites}
 
 pub keeps-writes : (h : List Op) → KeepsWrites h
-unfolding prepared byStart ranked isWrite
+unfolding prepared byStart ranked isWrite isOpening
 keeps-writes h =
     count-map (short (byStart (ranked h))) isWrite (byStart (ranked h)) ∙ count-sort startsFirst isWrite (ranked h) ∙ count-map (byRank h) isWrite h

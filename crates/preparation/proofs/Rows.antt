@@ -8,7 +8,6 @@ use mathlib.Core.List.{List, [], _∷_, map, map-append, List·Memᴰ as In, Lis
 use native.Mathlib.Omega.{arith}
 use lib.ListN.{length, getD, take, drop, length-append}
 use lib.Seq.{length-take-le, split-at, getD-append-seam}
-use Rattle.lists.proofs.Tests.{told-true, true-told}
 use Rattle.lists.proofs.Counts.{count-map}
 use Rattle.lists.proofs.Maps.{in-map, map-in}
 use Rattle.lists.proofs.Pairs.{pairs-image, image-pairs}
@@ -16,7 +15,6 @@ use Rattle.lists.proofs.Cover.{in-at, at-in}
 use Rattle.history.specs.declared.Op.{Op}
 use Rattle.history.specs.Table.{RowOf, opAt, rowsOf, history, isWrite}
 use Rattle.history.specs.Screen.{Screened}
-use Rattle.history.proofs.Operations.{told-write}
 use Rattle.history.proofs.Rows.{in-rows, rows-in, rows-rise}
 use Rattle.atomicity.specs.Order.{placed, TotalOrder, writesBetween, Within, Atomic}
 use Rattle.methods.specs.Place.{writeCount}
@@ -89,7 +87,7 @@ module _ (t : List ℕ) (register : ℕ) where
             record {
               at = length (d .front);
               earlier = omega (arith, cut-places c);
-              dictated = record { writes = ap (λ o. o .kind) e ∙ told-true (told-write (n .by)) (n .write); reads = r; same = ap (λ o. o .value) e ∙ n .same };
+              dictated = record { writes = ap isWrite e ∙ n .write; reads = r; same = ap (λ o. o .value) e ∙ n .same };
               near = omega (arith, between c, n .few, ap writeCount (d .to-back));
             }
           where
@@ -118,7 +116,7 @@ module _ (t : List ℕ) (register : ℕ) where
             near-within n (map-split (opAt t) (take q l) (n .front) (n .by) (n .back) (n .split))
 
       placed-atomic : Atomic k t register l
-      placed-atomic = record { valid = record { total = total; keeps = λ p q i j e. omega (arith, before p q i j .valid) }; reads = within }
+      placed-atomic = record { valid = record { total = total; keeps = λ p q i j e. before p q i j .valid e }; reads = within }
 
     -- From positions to places.
     module _ (s : Screened (length t) (history t register)) (h : Atomic k t register l) where
@@ -129,7 +127,7 @@ module _ (t : List ℕ) (register : ℕ) where
       before-at p q i j =
           record {
             apart = λ e. h .valid .total .once p q i j (sym (row-at t (getD l p 0)) ∙ e ∙ row-at t (getD l q 0));
-            valid = omega (arith, h .valid .keeps p q i j);
+            valid = h .valid .keeps p q i j;
           }
 
       module _ {a : List Op} {r : Op} {c : List Op} (d : Split (opAt t) l a r c) where
@@ -147,7 +145,7 @@ module _ (t : List ℕ) (register : ℕ) where
               by = opAt t (f .one);
               back = map (opAt t) (f .middle);
               split = d .to-front ∙ ap (map (opAt t)) (f .first-whole) ∙ map-append (opAt t) (f .front) (f .one ∷ f .middle);
-              write = true-told (told-write (opAt t (f .one))) (ap (λ o. o .kind) is-w ∙ w .dictated .writes);
+              write = ap isWrite is-w ∙ w .dictated .writes;
               same = ap (λ o. o .value) is-w ∙ w .dictated .same ∙ ap (λ o. o .value) is-r;
               few = omega (arith, between f, w .near);
             }

@@ -4,10 +4,12 @@
 use Prim.Native.Nat.{ℕ, _*_, _≤_, _<_}
 use mathlib.Core.Path.{_≡_, sym, ap, _∙_}
 use mathlib.Core.List.{List, map, List·Memᴰ as In}
+use mathlib.Core.Logic.{inl, inr}
 use native.Mathlib.Omega.{arith}
 use Rattle.lists.proofs.Maps.{in-map}
 use Rattle.lists.proofs.Pairs.{pairs-map, pairs-image}
 use Rattle.history.specs.declared.Op.{Op}
+use Rattle.history.specs.Table.{Precedes}
 use Rattle.history.specs.Screen.{Screened}
 use Rattle.methods.specs.Ranks.{starting, finishing, rank, byRank, ranked}
 use Rattle.methods.specs.Prepared.{byStart, newFinish, short, shorten, prepared}
@@ -18,12 +20,16 @@ use Rattle.witnesses.proofs.Places.{place, Bef, bef-in, bef-in₂, bef-pair, be
 use Rattle.witnesses.proofs.Positions.{orders-witness}
 use Rattle.preparation.specs.Claims.{RowsRise, OrderOf, HasPrepared, KeepsOrders}
 use Rattle.preparation.proofs.Timed.{Timed, from-sorted, into-sorted, orders-ranked, ranked-orders, timed}
-use Rattle.preparation.proofs.Stamped.{anew-rows, reads-of, proper-on, orders-on, orders-back}
+use Rattle.preparation.proofs.Stamped.{anew-opening, anew-rows, reads-of, proper-on, orders-on, orders-back}
 use Rattle.preparation.proofs.Finish.{New, whole, cut, new, new-read, new-le, new-first}
 
 -- the new start of an operation
 abbrev doubled : Op → ℕ
 doubled o = 2 * o .start
+
+-- what does not come after another starts no later than that finishes
+stands : (a b : Op) → (Precedes b a → ⊥) → a .start ≤ b .finish
+stands a b v = let n : b .finish < a .start → ⊥ = λ l. v (inl l) in omega arith
 
 module _ (H : List Op) (g : Timed H) where
   -- The history with new stamps is a prepared one.
@@ -48,6 +54,11 @@ module _ (H : List Op) (g : Timed H) where
       let z : r ≡ s = g .ends r s (d .mem) (c .mem) (omega (arith, above r (d .mem), above s (c .mem))) in
       g .proper .one x y (d .by) (c .by) (d .same ∙ ap (λ o. o .value) z ∙ sym (c .same))
 
+  clock : (x y : Op) → In x H → In y H → Precedes (short H x) (short H y) → newFinish H x < 2 * y .start
+  clock x y m n (inl l) = l
+  clock x y m n (inr (p, q)) =
+      omega (arith, new-le H x m, g .clock x y m n (inr (sym (anew-opening doubled (newFinish H) x) ∙ p, sym (anew-opening doubled (newFinish H) y) ∙ q)))
+
   first-ends : (v s : Op) → Reads (shorten H) v s → v .finish < s .finish
   first-ends v s k =
       let (w, r, d, p, q) = reads-of doubled (newFinish H) H k in
@@ -58,6 +69,7 @@ module _ (H : List Op) (g : Timed H) where
       record {
         proper = proper-on doubled (newFinish H) H (g .proper) (λ x m. span x m (new H x m));
         rising = pairs-image (short H) (pairs-map (g .rising) (λ x y m n l. omega arith));
+        clock = λ x y m n p. let (u, a, e) = in-map (short H) H m in let (v, b, d) = in-map (short H) H n in rw (e, d) (clock u v a b (rw (e, d) at p));
         cross = λ x y m n e.
             let (u, a, p) = in-map (short H) H m in
             let (v, b, q) = in-map (short H) H n in
@@ -80,20 +92,20 @@ module _ (H : List Op) (g : Timed H) where
 
         seen : (r : Op) → Reads H b r → Compared a r o → a .start ≤ r .finish
         seen r d (equal e) = omega (arith, ap (place o) e, bef-place (h .pairs) m, behind r d)
-        seen r d (first c) = bef-pair (h .pairs) c .valid
+        seen r d (first c) = stands a r (bef-pair (h .pairs) c .valid)
         seen r d (second c) = omega (arith, bef-place (h .pairs) c, bef-place (h .pairs) m, behind r d)
 
         go : New H b → 2 * a .start ≤ newFinish H b
-        go (whole e) = omega (arith, bef-pair (h .pairs) m .valid)
+        go (whole e) = omega (arith, stands a b (bef-pair (h .pairs) m .valid))
         go (cut r d l e) =
             omega (arith, seen r d (compared o (bef-in m) (h .into r (d .mem))), g .cross r a (d .mem) (h .from a (bef-in m)))
 
     orders-short : Orders k (shorten H) (map (short H) o)
-    orders-short = orders-on doubled (newFinish H) H h short-before
+    orders-short = orders-on doubled (newFinish H) H h (λ a b m p. omega (arith, short-before a b m, clock b a (h .from b (bef-in₂ m)) (h .from a (bef-in m)) p))
 
   -- And the other way round.
   short-orders : {k : ℕ} {p : List Op} → Orders k (shorten H) p → (o : List Op) × (p ≡ map (short H) o) × Orders k H o
-  short-orders = orders-back doubled (newFinish H) H (g .proper) (λ a b m n l. omega (arith, new-le H b n))
+  short-orders = orders-back doubled (newFinish H) H (g .proper) (λ a b m n p. inl (omega (arith, new-le H b n, g .clock b a n m p)))
 
 -- an order depends on the members only
 order-of : {H L : List Op} {k : ℕ} {o : List Op} → ((x : Op) → In x H → In x L) → ((x : Op) → In x L → In x H) → Orders k H o → Orders k L o

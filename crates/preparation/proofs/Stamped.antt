@@ -8,7 +8,7 @@ use Rattle.lists.specs.Pairs.{Pairs, nil, cons}
 use Rattle.lists.proofs.Maps.{in-map, map-in}
 use Rattle.lists.proofs.Pairs.{pairs-map, pairs-image, image-pairs}
 use Rattle.history.specs.declared.Op.{Op}
-use Rattle.history.specs.Table.{isWrite}
+use Rattle.history.specs.Table.{isOpening, isWrite, Precedes}
 use Rattle.methods.specs.Ranks.{stamped}
 use Rattle.methods.specs.Mark.{rowNumbers}
 use Rattle.witnesses.specs.Histories.{Write, Reads, Proper}
@@ -22,8 +22,12 @@ module _ (s e : Op → ℕ) where
   anew o = stamped (s o) (e o) o
 
   anew-write : (x : Op) → isWrite (anew x) ≡ isWrite x
-  unfolding isWrite
+  unfolding isWrite isOpening
   anew-write x = refl
+
+  pub anew-opening : (x : Op) → isOpening (anew x) ≡ isOpening x
+  unfolding isOpening
+  anew-opening x = refl
 
   -- what an operation with new stamps is, it was with the old ones
   pub was : (x : Op) {y : Op} → y ≡ anew x → isWrite x ≡ isWrite y
@@ -91,7 +95,7 @@ module _ (s e : Op → ℕ) where
         into m u z (there n) = u z n
 
     -- AN ORDER STAYS ONE where what stands before another may do so by the new stamps
-    pub orders-on : {k : ℕ} {o : List Op} → Orders k H o → ((a b : Op) → Bef a b o → s a ≤ e b) → Orders k (map anew H) (map anew o)
+    pub orders-on : {k : ℕ} {o : List Op} → Orders k H o → ((a b : Op) → Bef a b o → Precedes (anew b) (anew a) → ⊥) → Orders k (map anew H) (map anew o)
     orders-on {o = o} h valid =
         record {
           from = λ y m. let i = in-map anew o m in rw (i .2) (map-in anew (h .from (i .0) (i .1)));
@@ -106,7 +110,7 @@ module _ (s e : Op → ℕ) where
         pairs (x ∷ l) u = cons (λ y m. u x y (bef-here refl m)) (pairs l (λ a b m. u a b (bef-there m)))
 
     -- AND COMES FROM ONE where it may do so by the old ones too
-    pub orders-back : Proper H → ((a b : Op) → In a H → In b H → s a ≤ e b → a .start ≤ b .finish) → {k : ℕ} {p : List Op} → Orders k (map anew H) p →
+    pub orders-back : Proper H → ((a b : Op) → In a H → In b H → Precedes b a → Precedes (anew b) (anew a)) → {k : ℕ} {p : List Op} → Orders k (map anew H) p →
         (o : List Op) × (p ≡ map anew o) × Orders k H o
     orders-back g valid {k} {p} h = let (o, q, sub) = old p (h .from) in (o, q, back o sub (rw q at h))
       where
@@ -115,7 +119,7 @@ module _ (s e : Op → ℕ) where
             record {
               from = sub;
               into = λ x m. into x m (in-map anew o (i .into (anew x) (map-in anew m)));
-              pairs = pairs-map (image-pairs anew o (i .pairs)) (λ a b m n u. record { apart = u .apart; valid = valid a b (sub a m) (sub b n) (u .valid) });
+              pairs = pairs-map (image-pairs anew o (i .pairs)) (λ a b m n u. record { apart = u .apart; valid = λ q. u .valid (valid a b (sub a m) (sub b n) q) });
               passed = i .passed;
               runs = runs-back o (i .runs);
             }

@@ -1,21 +1,20 @@
 -- What the screening and ranks for stamps leave, in the words of histories: a history whose stamps differ and in which no read precedes its write.
 -- Assumes nothing.
 use Prim.Native.Nat.{ℕ, _≤_, _<_}
-use mathlib.Core.Path.{_≡_, refl, sym, ap}
+use mathlib.Core.Path.{_≡_, refl, sym, ap, _∙_}
 use mathlib.Core.Logic.{_⊎_, inl, inr, _≢_}
-use mathlib.Core.Bool.{false}
+use mathlib.Core.Bool.{Bool, true, false}
 use mathlib.Core.List.{List, map, List·Memᴰ as In}
 use native.Mathlib.Omega.{arith}
-use native.Mathlib.Decide.{decLt}
 use Rattle.lists.specs.Pairs.{Pairs}
-use Rattle.lists.proofs.Tests.{told-true, true-told, told-false, false-told}
+use Rattle.lists.proofs.Tests.{both, Told, holds, fails}
 use Rattle.lists.proofs.Maps.{in-map}
 use Rattle.lists.proofs.Pairs.{pairs-map, pairs-both, pairs-image}
 use Rattle.lists.proofs.Sorts.{in-sort, sort-in, by-key}
 use Rattle.history.specs.declared.Op.{Op}
-use Rattle.history.specs.Table.{isWrite}
+use Rattle.history.specs.Table.{isOpening, isWrite, precedes, Precedes}
 use Rattle.history.specs.Screen.{Screened}
-use Rattle.history.proofs.Operations.{told-write}
+use Rattle.history.proofs.Operations.{told-precedes}
 use Rattle.methods.specs.Ranks.{starting, finishing, rank, byRank, ranked}
 use Rattle.methods.specs.Prepared.{startsFirst, byStart}
 use Rattle.witnesses.specs.Histories.{Write, Reads, Apart, Proper}
@@ -24,13 +23,14 @@ use Rattle.witnesses.proofs.Places.{bef-in, bef-in₂, bef-pair}
 use Rattle.witnesses.proofs.Parts.{write-sub, reads-sub}
 use Rattle.preparation.specs.Claims.{RowsRise}
 use Rattle.preparation.proofs.Lists.{Met, alike, ahead, behind, met}
-use Rattle.preparation.proofs.Ranks.{start-in, finish-in, ranks-differ, meets-ranked, keeps-precedence}
-use Rattle.preparation.proofs.Stamped.{reads-of, proper-on, orders-on, orders-back}
+use Rattle.preparation.proofs.Ranks.{start-in, finish-in, ranks-differ, precedes-ranked, meets-ranked, own-ranked}
+use Rattle.preparation.proofs.Stamped.{anew-opening, reads-of, proper-on, orders-on, orders-back}
 
 -- A history by rising start, as the screening and the ranks leave it: a prepared one but for the writes that finish after a read of theirs.
 pub record Timed (H : List Op) : Type 0 where
   pub proper : Proper H
   pub rising : Pairs (λ x y. x .start < y .start) H
+  pub clock : (x y : Op) → In x H → In y H → Precedes x y → x .finish < y .start
   pub cross : (x y : Op) → In x H → In y H → x .finish ≢ y .start
   pub ends : (x y : Op) → In x H → In y H → x .finish ≡ y .finish → x ≡ y
   pub timely : (w r : Op) → Reads H w r → w .start ≤ r .finish
@@ -41,33 +41,30 @@ Earlier x y = x .row < y .row
 
 -- the kinds are two: a read is no write, and what is no write is a read
 pub kind-read : (r : Op) → r .kind ≡ 2 → isWrite r ≡ false
-kind-read r e = false-told (told-write r) (λ k. omega arith)
+unfolding isWrite isOpening
+kind-read r e = rw e
 
 module _ {size : ℕ} {h : List Op} (s : Screened size h) where
   pub read-kind : {r : Op} → In r h → isWrite r ≡ false → r .kind ≡ 2
   read-kind {r} m e = go (s .kinds r m)
     where
-      go : (r .kind ≡ 1) ⊎ (r .kind ≡ 2) → r .kind ≡ 2
-      go (inl k) = absurd (told-false (told-write r) e k)
+      go : (isWrite r ≡ true) ⊎ (r .kind ≡ 2) → r .kind ≡ 2
+      go (inl k) = absurd (both k e)
       go (inr k) = k
 
   -- what the tests say of an earlier and a later row, for any two operations
   one : (x y : Op) → Write h x → Write h y → Met Earlier x y → x .value ≡ y .value → x ≡ y
   one x y u v (alike d) e = d
-  one x y u v (ahead l) e = absurd (s .values x y (u .mem) (v .mem) l (told-true (told-write x) (u .write)) (told-true (told-write y) (v .write)) e)
-  one x y u v (behind l) e = absurd (s .values y x (v .mem) (u .mem) l (told-true (told-write y) (v .write)) (told-true (told-write x) (u .write)) (sym e))
+  one x y u v (ahead l) e = absurd (s .values x y (u .mem) (v .mem) l (u .write) (v .write) e)
+  one x y u v (behind l) e = absurd (s .values y x (v .mem) (u .mem) l (v .write) (u .write) (sym e))
 
   dict : (r : Op) → In r h → isWrite r ≡ false → (w : Op) × Reads h w r
   dict r m e =
       let d = s .written r m (read-kind m e) in
-      (d .0, record { by = record { mem = d .1; write = true-told (told-write (d .0)) (d .2 .writes) }; mem = m; read = e; same = d .2 .same })
+      (d .0, record { by = record { mem = d .1; write = d .2 .writes }; mem = m; read = e; same = d .2 .same })
 
-  timely : (w r : Op) → Reads h w r → w .start ≤ r .finish
-  timely w r d =
-      omega (
-        arith,
-        s .timely w r (d .by .mem) (d .mem) (record { writes = told-true (told-write w) (d .by .write); reads = read-kind (d .mem) (d .read); same = d .same }),
-      )
+  timely : (w r : Op) → Reads h w r → Precedes r w → ⊥
+  timely w r d = s .timely w r (d .by .mem) (d .mem) (record { writes = d .by .write; reads = read-kind (d .mem) (d .read); same = d .same })
 
   module _ (a : RowsRise h) where
     pub screened-proper : Proper h
@@ -91,34 +88,39 @@ module _ {size : ℕ} {h : List Op} (s : Screened size h) (a : RowsRise h) where
   ends x y m n (ahead l) e = absurd (ranks-differ h (finish-in h m) (finish-in h n) refl l e)
   ends x y m n (behind l) e = absurd (ranks-differ h (finish-in h n) (finish-in h m) refl l (sym e))
 
+  -- precedence is by ranks alone
+  clock : (x y : Op) → In x h → In y h → Precedes (byRank h x) (byRank h y) → byRank h x .finish < byRank h y .start
+  clock x y m n (inl l) = l
+  clock x y m n (inr (p, q)) =
+      precedes-ranked h (s .spans) m n (inr (sym (anew-opening (λ o. rank h (starting o)) (λ o. rank h (finishing o)) x) ∙ p, sym (anew-opening (λ o. rank h (starting o)) (λ o. rank h (finishing o)) y) ∙ q))
+
   cross : (x y : Op) → In x h → In y h → byRank h x .finish ≢ byRank h y .start
-  cross x y m n e = go (decLt (x .finish) (y .start))
+  cross x y m n e = go (precedes x y) (told-precedes x y)
     where
-      go : Dec (x .finish < y .start) → ⊥
-      go (yes l) = omega (arith, keeps-precedence h x y m n .1 l)
-      go (no l) = omega (arith, meets-ranked h n m (omega arith))
+      go : (b : Bool) → Told (Precedes x y) b → ⊥
+      go true (holds l) = omega (arith, precedes-ranked h (s .spans) m n l)
+      go false (fails l) = omega (arith, meets-ranked h (s .spans) n m l)
 
   ranked-proper : Proper (ranked h)
   unfolding ranked
   ranked-proper =
-      proper-on (λ o. rank h (starting o)) (λ o. rank h (finishing o)) h (screened-proper s a) (λ x m. omega (arith, meets-ranked h m m (s .spans x m .0)))
+      proper-on (λ o. rank h (starting o)) (λ o. rank h (finishing o)) h (screened-proper s a) (λ x m. omega (arith, own-ranked h (s .spans) m))
 
   -- A HISTORY WITH RANKS has the orders of the history with stamps
   pub orders-ranked : {k : ℕ} {o : List Op} → Orders k h o → Orders k (ranked h) (map (byRank h) o)
   unfolding ranked
   orders-ranked g =
       orders-on (λ o. rank h (starting o)) (λ o. rank h (finishing o)) h g
-      (λ x y m. omega (arith, meets-ranked h (g .from x (bef-in m)) (g .from y (bef-in₂ m)) (bef-pair (g .pairs) m .valid)))
+      (λ x y m p.
+      let i = g .from x (bef-in m) in
+      let j = g .from y (bef-in₂ m) in
+      omega (arith, clock y x j i p, meets-ranked h (s .spans) i j (bef-pair (g .pairs) m .valid)))
 
   pub ranked-orders : {k : ℕ} {p : List Op} → Orders k (ranked h) p → (o : List Op) × (p ≡ map (byRank h) o) × Orders k h o
   unfolding ranked
   ranked-orders g =
       orders-back (λ o. rank h (starting o)) (λ o. rank h (finishing o)) h (screened-proper s a)
-      (λ x y m n l. go x y (decLt (y .finish) (x .start)) (keeps-precedence h y x n m .1) l) g
-    where
-      go : (x y : Op) → Dec (y .finish < x .start) → (y .finish < x .start → byRank h y .finish < byRank h x .start) → byRank h x .start ≤ byRank h y .finish → x .start ≤ y .finish
-      go x y (yes k) f l = absurd (omega (arith, f k))
-      go x y (no k) f l = omega arith
+      (λ x y m n p. inl (precedes-ranked h (s .spans) n m p)) g
 
 -- By rising start: the same members, and the starts, which all differ, rise.
 module _ {h : List Op} where
@@ -166,13 +168,14 @@ module _ {size : ℕ} {h : List Op} (s : Screened size h) (a : RowsRise h) where
   unfolding ranked
   early w r d =
       let (v, x, k, p, q) = reads-of (λ o. rank h (starting o)) (λ o. rank h (finishing o)) h d in
-      omega (arith, ap (λ o. o .start) p, ap (λ o. o .finish) q, meets-ranked h (k .by .mem) (k .mem) (timely s v x k))
+      omega (arith, ap (λ o. o .start) p, ap (λ o. o .finish) q, meets-ranked h (s .spans) (k .by .mem) (k .mem) (timely s v x k))
 
   pub timed : Timed (byStart (ranked h))
   timed =
       record {
         proper = sorted-proper starts-differ (ranked-proper s a);
         rising = sorted-rising starts-differ (ranked-proper s a);
+        clock = λ x y m n p. let (u, i, e) = of m in let (v, j, d) = of n in rw (e, d) (clock s a u v i j (rw (e, d) at p));
         cross = λ x y m n e. let (u, i, p) = of m in let (v, j, q) = of n in cross s a u v i j (cc (ap (λ o. o .finish) p, ap (λ o. o .start) q));
         ends = λ x y m n e.
             let (u, i, p) = of m in

@@ -9,8 +9,8 @@ use mathlib.Core.List.{List, List·Memᴰ as In}
 use lib.ListN.{length}
 use Rattle.lists.specs.Pairs.{Pairs}
 use Rattle.history.specs.declared.Op.{Op}
-use Rattle.history.specs.Table.{history}
-use Rattle.history.specs.Screen.{Screened}
+use Rattle.history.specs.Table.{history, Precedes}
+use Rattle.history.specs.Screen.{Spanned, Screened}
 use Rattle.atomicity.specs.Order.{Atomic}
 use Rattle.methods.specs.Ranks.{Event, events, sooner, rank, byRank}
 use Rattle.methods.specs.Prepared.{prepared}
@@ -31,9 +31,10 @@ OrderOf k h rows = (o : List Op) × (rows ≡ rowNumbers o) × Orders k h o
 abbrev pub RanksRise : List Op → Type 0
 RanksRise h = (d e : Event) → In d (events h) → In e (events h) → (rank h d < rank h e) ↔ (sooner d e ≡ true)
 
--- A finish has a lower rank than a start exactly when its stamp is below: precedence is that of the recorded stamps (02, W-203).
+-- A finish has a lower rank than a start exactly when its operation precedes the other's: precedence is that of the recorded stamps, with the
+-- opening before every other row (02, W-203 and W-207), where each operation has a span.
 abbrev pub KeepsPrecedence : List Op → Type 0
-KeepsPrecedence h = (x y : Op) → In x h → In y h → (byRank h x .finish < byRank h y .start) ↔ (x .finish < y .start)
+KeepsPrecedence h = ((o : Op) → In o h → Spanned o) → (x y : Op) → In x h → In y h → (byRank h x .finish < byRank h y .start) ↔ Precedes x y
 
 -- The prepared history of a screened register has all that the methods rely on (01, "Doubled stamps").
 abbrev pub HasPrepared : ℕ → List Op → Type 0

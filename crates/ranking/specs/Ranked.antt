@@ -1,4 +1,4 @@
--- The doubled ranks of the stamps of some rows, and what is made on the way (document 02, W-203).
+-- The doubled ranks of the stamps of some rows, and what is made on the way (document 02, W-203; W-207).
 -- Assumes nothing.
 use Prim.Native.Nat.{ℕ, _+_, _*_, _≤_, _<_}
 use mathlib.Core.Path.{_≡_}
@@ -9,28 +9,29 @@ use lib.Dec.{ltb, leb}
 use lib.ListN.{length, getD}
 use Rattle.history.specs.declared.Op.{Op}
 use Rattle.history.specs.Table.{opAt}
+use Rattle.history.specs.Screen.{Spanned}
 use Rattle.methods.specs.Ranks.{starting, finishing, lower, rank}
-use Rattle.methods.specs.Prepared.{byStart}
+use Rattle.preparation.specs.Times.{timeOf, byTime}
 use Rattle.preparation.specs.Claims.{RowsRise}
 
--- rows of the table whose stamps passed the screening (01, code 5; 02, W-203)
+-- rows of the table whose stamps passed the screening (01, code 5; 02, W-203 and W-207)
 pub record Fit (t rows : List ℕ) : Type 0 where
   pub inside : (x : ℕ) → In x rows → x * 5 + 5 ≤ length t
-  pub spans : (x : ℕ) → In x rows → opAt t x .start ≤ opAt t x .finish
+  pub spans : (x : ℕ) → In x rows → Spanned (opAt t x)
 
--- h are operations whose rows rise, and by rising start they are those of the rows (01, "Doubled stamps")
+-- h are operations whose rows rise, and by rising time they are those of the rows (01, "Doubled stamps"; 02, W-207)
 pub record Stands (t rows : List ℕ) (h : List Op) : Type 0 where
   pub rise : RowsRise h
-  pub sorted : byStart h ≡ map (opAt t) rows
+  pub sorted : byTime h ≡ map (opAt t) rows
 
 -- there are such operations
 abbrev pub Standing : List ℕ → List ℕ → Type 0
 Standing t rows = (h : List Op) × Stands t rows h
 
--- the starts and the finishes of the rows
+-- the times of the starts and of the finishes of the rows (02, W-207)
 pub record Stamps (t rows starts finishes : List ℕ) : Type 0 where
-  pub begin : starts ≡ map (λ x. opAt t x .start) rows
-  pub end : finishes ≡ map (λ x. opAt t x .finish) rows
+  pub begin : starts ≡ map (λ x. timeOf (starting (opAt t x))) rows
+  pub end : finishes ≡ map (λ x. timeOf (finishing (opAt t x))) rows
 
 -- no two positions have one row
 abbrev pub RowsDiffer : List ℕ → Type 0

@@ -1,16 +1,28 @@
-// The doubled ranks of a register's stamps, from its rows by rising start: the finishes are sorted, and merged with the starts.
+// The doubled ranks of a register's stamps, from its rows by rising time: the finishes are sorted, and merged with the starts.
 use history::Op;
 ghost use mathlib.Core.Path.{_≡_};
 ghost use mathlib.Core.Bool.{true};
-ghost use Prim.Native.Nat.{_*_, _≤_, _<_};
+ghost use Prim.Native.Nat.{_+_, _*_, _≤_, _<_};
 ghost use lib.ListN.{length};
 ghost use Rattle.lists.specs.Lists.{upTo};
 ghost use Rattle.lists.specs.Sorts.{sort};
 ghost use Rattle.sorting.specs.Keys.{rises};
-ghost use Rattle.history.specs.Table.{largestCount};
+ghost use Rattle.history.specs.Table.{largestStamp, largestCount};
+ghost use Rattle.methods.specs.Ranks.{levelOf};
 ghost use Rattle.ranking.specs.Ranked.{Fit, Standing, Stamps, RowsDiffer, finishesFirst, Ready, comesFirst, Merged, RanksOf};
 
-// The starts and the finishes of the rows.
+// The time of a stamp of the operation: one more than the stamp, so that the opening's, which is 0, lies below all others.
+pub fn time(o: Op, stamp: u64) -> u64
+    requires { ⌜ stamp ≤ largestStamp ⌝ }
+    ensures { λ r. ⌜ r ≡ levelOf o + stamp ⌝ }
+{
+    if o.is_opening() {
+        return stamp;
+    }
+    1 + stamp
+}
+
+// The times of the starts and of the finishes of the rows.
 fn stamps_of(table: &[u64], rows: &[u64], starts: &mut [u64], finishes: &mut [u64])
     requires { ⌜ Fit (now table) (now rows) ⌝ }
     requires { ⌜ (length (now starts) ≡ length (now rows)) × (length (now finishes) ≡ length (now rows)) ⌝ }
@@ -19,8 +31,8 @@ fn stamps_of(table: &[u64], rows: &[u64], starts: &mut [u64], finishes: &mut [u6
     let mut i: usize = 0;
     while i < rows.len() {
         let o = Op::at(table, rows[i] as usize);
-        starts[i] = o.start;
-        finishes[i] = o.finish;
+        starts[i] = time(o, o.start);
+        finishes[i] = time(o, o.finish);
         i += 1;
     }
 }
@@ -104,7 +116,7 @@ fn merge(list: &[u64], start: &mut [u64], finish: &mut [u64])
     }
 }
 
-// The doubled ranks of the starts and of the finishes of a register's rows, which stand by rising start; the list has a place for each row.
+// The doubled ranks of the starts and of the finishes of a register's rows, which stand by rising time; the list has a place for each row.
 pub fn ranks(table: &[u64], rows: &[u64], list: &mut [u64], start: &mut [u64], finish: &mut [u64])
     requires { ⌜ Fit (now table) (now rows) ⌝ }
     requires { ⌜ length (now rows) ≤ largestCount ⌝ }

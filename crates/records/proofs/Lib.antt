@@ -2,4 +2,5 @@
 pub mod Numbers
 pub mod Blocks
 pub mod Storing
+pub mod Offsets
 pub mod Records

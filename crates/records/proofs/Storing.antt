@@ -1,13 +1,17 @@
 -- Runs of stores, one behind the other: those of a record's fields are those of the record.
 -- Assumes nothing.
 use Prim.Native.Nat.{ℕ, suc, _+_}
-use mathlib.Core.Path.{_≡_, refl, _∙_}
-use mathlib.Core.List.{List, [], _∷_, _++_}
+use mathlib.Core.Path.{_≡_, refl, sym, ap, _∙_}
+use mathlib.Core.Logic.{_≢_}
+use mathlib.Core.Bool.{cond}
+use mathlib.Core.List.{List, [], _∷_, _++_, append-nil}
 use native.Mathlib.Omega.{arith}
+use borrow.Author.Tests.{eq-eqb, ne-eqb}
+use lib.Dec.{eqb}
 use lib.ListN.{length, set, length-append}
 use lib.Seq.{sets}
 use Rattle.history.specs.declared.Row.{Row}
-use Rattle.records.specs.Records.{littleEndian, recordOf}
+use Rattle.records.specs.Records.{littleEndian, bodyLength, headBytes, stampBytes, recordOf}
 use Rattle.records.proofs.Numbers.{length-bytes}
 
 -- the stores of vs, then those of ws behind them
@@ -28,26 +32,44 @@ stores-sets (a ∷ vs) l at k i e = rw e (stores-sets vs (set l i a) at (suc k) 
 pub stores-first : (l : List ℕ) (at a : ℕ) (vs : List ℕ) → stores (set l at a) at 1 vs ≡ sets l at (a ∷ vs)
 stores-first l at a vs = stores-sets vs (set l at a) at 1 (suc at) (omega arith)
 
--- The stores of a record's six fields are the stores of the record.
-pub record-stores : (l : List ℕ) (at : ℕ) (r : Row) →
-    sets (sets (sets (sets (sets (sets l at (littleEndian 2 34)) (at + 2) (littleEndian 2 (r .kind))) (at + 4) (littleEndian 8 (r .register))) (at + 12) (littleEndian 8 (r .value))) (at + 20) (littleEndian 8 (r .start))) (at + 28) (littleEndian 8 (r .finish))
-    ≡ sets l at (recordOf r)
-unfolding recordOf
-record-stores l at r =
-    let a = littleEndian 2 34 in
-    let b = littleEndian 2 (r .kind) in
-    let c = littleEndian 8 (r .register) in
-    let d = littleEndian 8 (r .value) in
-    let e = littleEndian 8 (r .start) in
-    let two : length a ≡ 2 = length-bytes 2 34 in
-    let four : length (a ++ b) ≡ 4 = length-append a b ∙ omega (arith, length-bytes 2 (r .kind)) in
-    let twelve : length (a ++ b ++ c) ≡ 12 = length-append (a ++ b) c ∙ omega (arith, length-bytes 8 (r .register)) in
-    let twenty : length (a ++ b ++ c ++ d) ≡ 20 = length-append (a ++ b ++ c) d ∙ omega (arith, length-bytes 8 (r .value)) in
-    let rest : length (a ++ b ++ c ++ d ++ e) ≡ 28 = length-append (a ++ b ++ c ++ d) e ∙ omega (arith, length-bytes 8 (r .start)) in
+-- The stores of a record's fields, one behind the other, are the stores of the record.
+pub head-stores : (l : List ℕ) (at kind register value : ℕ) →
+    sets (sets (sets (sets l at (littleEndian 2 (bodyLength kind))) (at + 2) (littleEndian 2 kind)) (at + 4) (littleEndian 8 register)) (at + 12) (littleEndian 8 value) ≡ sets l at (headBytes kind register value)
+head-stores l at kind register value =
+    let a = littleEndian 2 (bodyLength kind) in
+    let b = littleEndian 2 kind in
+    let c = littleEndian 8 register in
+    let two : length a ≡ 2 = length-bytes 2 (bodyLength kind) in
+    let four : length (a ++ b) ≡ 4 = length-append a b ∙ omega (arith, length-bytes 2 kind) in
+    let twelve : length (a ++ b ++ c) ≡ 12 = length-append (a ++ b) c ∙ omega (arith, length-bytes 8 register) in
     rw (
       sets-on a b l at (at + 2) (omega arith),
       sets-on (a ++ b) c l at (at + 4) (omega arith),
-      sets-on (a ++ b ++ c) d l at (at + 12) (omega arith),
-      sets-on (a ++ b ++ c ++ d) e l at (at + 20) (omega arith),
-      sets-on (a ++ b ++ c ++ d ++ e) (littleEndian 8 (r .finish)) l at (at + 28) (omega arith),
+      sets-on (a ++ b ++ c) (littleEndian 8 value) l at (at + 12) (omega arith),
     )
+
+pub stamp-stores : (l : List ℕ) (at start finish : ℕ) → sets (sets l at (littleEndian 8 start)) (at + 8) (littleEndian 8 finish) ≡ sets l at (stampBytes start finish)
+stamp-stores l at start finish = sets-on (littleEndian 8 start) (littleEndian 8 finish) l at (at + 8) (omega (arith, length-bytes 8 start))
+
+module _ (l : List ℕ) (at : ℕ) (r : Row) where
+  abbrev head : List ℕ
+  head = headBytes (r .kind) (r .register) (r .value)
+
+  abbrev stamps : List ℕ
+  stamps = stampBytes (r .start) (r .finish)
+
+  head-long : length head ≡ 20
+  unfolding littleEndian
+  head-long = refl
+
+  pub opening-stores : r .kind ≡ 3 → sets l at head ≡ sets l at (recordOf r)
+  unfolding recordOf
+  opening-stores k =
+      let none : cond (eqb (r .kind) 3) [] stamps ≡ [] = rw (eq-eqb (r .kind) 3 k) in
+      ap (sets l at) (sym (ap (λ (x : List ℕ). head ++ x) none ∙ append-nil head))
+
+  pub record-stores : r .kind ≢ 3 → sets (sets l at head) (at + 20) stamps ≡ sets l at (recordOf r)
+  unfolding recordOf
+  record-stores k =
+      let both : cond (eqb (r .kind) 3) [] stamps ≡ stamps = rw (ne-eqb (r .kind) 3 k) in
+      sets-on head stamps l at (at + 20) (omega (arith, head-long)) ∙ ap (sets l at) (ap (λ (x : List ℕ). head ++ x) (sym both))

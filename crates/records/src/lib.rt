@@ -1,17 +1,23 @@
 // A number and its bytes, a record of bytes and its row of numbers, each stored from the other.
+use history::Op;
 use history::Row;
 ghost use mathlib.Core.Path.{_≡_};
+ghost use mathlib.Core.Logic.{_≢_};
 ghost use Prim.Native.Nat.{_+_, _*_, _%_, _≤_, _<_};
 ghost use lib.ListN.{length};
 ghost use lib.Seq.{sets};
-ghost use Rattle.history.specs.Table.{rowAt};
-ghost use Rattle.records.specs.Records.{littleEndian, field, recordAt, recordOf, cells};
+ghost use Rattle.history.specs.Table.{cell, rowAt};
+ghost use Rattle.records.specs.Records.{littleEndian, field, bodyLength, recordLength, next, stampOf, recordFrom, headBytes, stampBytes, recordOf, cells};
+
+// What the length field holds, the bytes behind it: of a record with stamps, and of an opening's, which has none.
+pub const BODY: u64 = 34;
+
+pub const SHORT_BODY: u64 = 18;
 
 // The bytes of a record, with its length field.
 pub const RECORD: usize = 36;
 
-// What the length field holds: the bytes behind it.
-pub const BODY: u64 = 34;
+pub const SHORT_RECORD: usize = 20;
 
 fn wide(x: u8) -> u64
     ensures { λ r. ⌜ (r ≡ x) × (r < 256) ⌝ }
@@ -79,33 +85,94 @@ fn put_eight(bytes: &mut [u8], at: usize, x: u64)
     bytes[at + 7] = low(h);
 }
 
-// Puts the five numbers of the source record at a row of the table.
-pub fn read_row(bytes: &[u8], source: usize, table: &mut [u64], row: usize)
-    requires { ⌜ source * 36 + 36 ≤ length (now bytes) ⌝ }
-    requires { ⌜ row * 5 + 5 ≤ length (now table) ⌝ }
-    ensures { λ _. ⌜ now (table .exit) ≡ sets (now (table .entry)) (row * 5) (cells (recordAt (now (bytes .entry)) source)) ⌝ }
+// What the length field of a record of some kind holds.
+pub fn body_length(kind: u64) -> u64
+    ensures { λ r. ⌜ r ≡ bodyLength kind ⌝ }
 {
-    let at = source * RECORD;
-    let base = row * Row::COLUMNS;
-    table[base + Row::REGISTER] = eight(bytes, at + 4);
-    table[base + Row::KIND] = two(bytes, at + 2);
-    table[base + Row::VALUE] = eight(bytes, at + 12);
-    table[base + Row::START] = eight(bytes, at + 20);
-    table[base + Row::FINISH] = eight(bytes, at + 28);
+    if kind == Op::OPENING {
+        return SHORT_BODY;
+    }
+    BODY
 }
 
-// Puts a row of the table into its record.
-pub fn write_row(table: &[u64], row: usize, bytes: &mut [u8])
+// Where the record behind the one at a place begins.
+pub fn next(bytes: &[u8], at: usize) -> usize
+    requires { ⌜ at + 2 ≤ length (now bytes) ⌝ }
+    ensures { λ r. ⌜ r ≡ next (now (bytes .entry)) at ⌝ }
+{
+    at + (2 + two(bytes, at) as usize)
+}
+
+// A stamp of a row of some kind: the opening's are 0 and stand in no record.
+fn stamp(bytes: &[u8], kind: u64, at: usize) -> u64
+    requires { ⌜ (kind ≢ 3 → at + 8 ≤ length (now bytes)) ⌝ }
+    ensures { λ r. ⌜ r ≡ stampOf kind (field (now (bytes .entry)) at 8) ⌝ }
+{
+    if kind == Op::OPENING {
+        return 0;
+    }
+    eight(bytes, at)
+}
+
+// Puts the five numbers of the record at a place into a row of the table.
+pub fn read_row(bytes: &[u8], at: usize, table: &mut [u64], row: usize)
+    requires { ⌜ at + recordLength (field (now bytes) (at + 2) 2) ≤ length (now bytes) ⌝ }
     requires { ⌜ row * 5 + 5 ≤ length (now table) ⌝ }
-    requires { ⌜ row * 36 + 36 ≤ length (now bytes) ⌝ }
-    ensures { λ _. ⌜ now (bytes .exit) ≡ sets (now (bytes .entry)) (row * 36) (recordOf (rowAt (now (table .entry)) row)) ⌝ }
+    ensures { λ _. ⌜ now (table .exit) ≡ sets (now (table .entry)) (row * 5) (cells (recordFrom (now (bytes .entry)) at)) ⌝ }
 {
     let base = row * Row::COLUMNS;
-    let at = row * RECORD;
-    put_two(bytes, at, BODY);
-    put_two(bytes, at + 2, table[base + Row::KIND]);
-    put_eight(bytes, at + 4, table[base + Row::REGISTER]);
-    put_eight(bytes, at + 12, table[base + Row::VALUE]);
-    put_eight(bytes, at + 20, table[base + Row::START]);
-    put_eight(bytes, at + 28, table[base + Row::FINISH]);
+    let kind = two(bytes, at + 2);
+    table[base + Row::REGISTER] = eight(bytes, at + 4);
+    table[base + Row::KIND] = kind;
+    table[base + Row::VALUE] = eight(bytes, at + 12);
+    table[base + Row::START] = stamp(bytes, kind, at + 20);
+    table[base + Row::FINISH] = stamp(bytes, kind, at + 28);
+}
+
+// Stores a record's bytes up to its value.
+fn put_head(bytes: &mut [u8], at: usize, kind: u64, register: u64, value: u64)
+    requires { ⌜ at + 20 ≤ length (now bytes) ⌝ }
+    ensures { λ _. ⌜ now (bytes .exit) ≡ sets (now (bytes .entry)) at (headBytes kind register value) ⌝ }
+{
+    put_two(bytes, at, body_length(kind));
+    put_two(bytes, at + 2, kind);
+    put_eight(bytes, at + 4, register);
+    put_eight(bytes, at + 12, value);
+}
+
+// Stores the bytes of two stamps.
+fn put_stamps(bytes: &mut [u8], at: usize, start: u64, finish: u64)
+    requires { ⌜ at + 16 ≤ length (now bytes) ⌝ }
+    ensures { λ _. ⌜ now (bytes .exit) ≡ sets (now (bytes .entry)) at (stampBytes start finish) ⌝ }
+{
+    put_eight(bytes, at, start);
+    put_eight(bytes, at + 8, finish);
+}
+
+// Puts a row of the table into the record at a place; where the next one begins comes back.
+pub fn write_row(table: &[u64], row: usize, bytes: &mut [u8], at: usize) -> usize
+    requires { ⌜ row * 5 + 5 ≤ length (now table) ⌝ }
+    requires { ⌜ at + recordLength (cell (now table) row 1) ≤ length (now bytes) ⌝ }
+    ensures { λ r. ⌜ r ≡ at + recordLength (cell (now (table .entry)) row 1) ⌝ }
+    ensures { λ _. ⌜ now (bytes .exit) ≡ sets (now (bytes .entry)) at (recordOf (rowAt (now (table .entry)) row)) ⌝ }
+{
+    let base = row * Row::COLUMNS;
+    let kind = table[base + Row::KIND];
+    put_head(
+        bytes,
+        at,
+        kind,
+        table[base + Row::REGISTER],
+        table[base + Row::VALUE],
+    );
+    if kind == Op::OPENING {
+        return at + SHORT_RECORD;
+    }
+    put_stamps(
+        bytes,
+        at + SHORT_RECORD,
+        table[base + Row::START],
+        table[base + Row::FINISH],
+    );
+    at + RECORD
 }

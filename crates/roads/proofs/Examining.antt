@@ -11,7 +11,7 @@ use Rattle.history.specs.declared.Op.{Op}
 use Rattle.history.specs.declared.Answer.{Answer}
 use Rattle.history.specs.Table.{largestCount, opAt, history}
 use Rattle.history.specs.Answer.{firstMet, passed}
-use Rattle.history.specs.Screen.{tests, examined, screening}
+use Rattle.history.specs.Screen.{tests, examined, screening, Screened}
 use Rattle.history.proofs.Rows.{in-rows, rows-rise, rows-few, history-count}
 use Rattle.history.proofs.Refusals.{code-no-fault, no-fault-answer}
 use Rattle.history.proofs.Screened.{tests-coded, screening-exactly}
@@ -19,9 +19,11 @@ use Rattle.conditions.specs.Tests.{rowTests, Listed as Rising}
 use Rattle.writers.specs.Writers.{Within}
 use Rattle.screening.proofs.Examined.{past-three}
 use Rattle.lists.proofs.Sorts.{sort-length}
-use Rattle.methods.specs.Prepared.{startsFirst, byStart}
+use Rattle.preparation.specs.Times.{beginsFirst, byTime}
 use Rattle.methods.specs.Mark.{Outcome, noQuestion, mark, rowNumbers}
+use Rattle.ranking.specs.Ranked.{Fit}
 use Rattle.columns.specs.Rows.{Listed}
+use Rattle.columns.proofs.Lent.{gathered-fit}
 use Rattle.searches.specs.Replies.{outcome}
 use Rattle.marker.specs.Called.{Asked, judgedBy}
 use Rattle.marker.proofs.Refusing.{met-refused, met-passed, mark-refused, mark-marked}
@@ -45,7 +47,7 @@ module _ (t : List ℕ) (s : Sound t) (register : ℕ) where
   rows-fit = omega (arith, rows-few t register, s .few)
 
   module _ (rows : List ℕ) (e : RowsOf t register rows) where
-    pub rows-within : Within t rows
+    rows-within : Within t rows
     rows-within x m = omega (arith, in-rows t register (rw e at m) .exists)
 
     -- they rise
@@ -63,7 +65,15 @@ module _ (t : List ℕ) (s : Sound t) (register : ℕ) where
     pub examined-refused : (met : Answer) → met ≡ firstMet (rowTests (map (opAt t) rows)) (passed (length rows)) → met .code ≢ 0 → Examined t register met rows
     examined-refused met q n = record { answer = screened-by met q; listed = λ z. absurd (n z) }
 
-    pub examined-passed : (met : Answer) → met ≡ firstMet (rowTests (map (opAt t) rows)) (passed (length rows)) → (new : List ℕ) → new ≡ rowNumbers (byStart (map (opAt t) rows)) →
+    -- where it passes
+    passed-screened : (met : Answer) → met ≡ firstMet (rowTests (map (opAt t) rows)) (passed (length rows)) → met .code ≡ 0 → Screened (length t) h
+    passed-screened met q z = screening-exactly t register .0 (sym (ap (λ x. x .code) (screened-by met q)) ∙ z)
+
+    -- what is taken for the sort
+    pub passed-fit : (met : Answer) → met ≡ firstMet (rowTests (map (opAt t) rows)) (passed (length rows)) → met .code ≡ 0 → Fit t rows
+    passed-fit met q z = gathered-fit t register (passed-screened met q z) rows e
+
+    pub examined-passed : (met : Answer) → met ≡ firstMet (rowTests (map (opAt t) rows)) (passed (length rows)) → (new : List ℕ) → new ≡ rowNumbers (byTime (map (opAt t) rows)) →
         Examined t register met new
     unfolding history
     examined-passed met q new sorted =
@@ -72,15 +82,15 @@ module _ (t : List ℕ) (s : Sound t) (register : ℕ) where
           listed =
               λ z.
               record {
-                screened = screening-exactly t register .0 (sym (ap (λ x. x .code) (screened-by met q)) ∙ z);
-                listed = sorted ∙ ap (λ (l : List ℕ). rowNumbers (byStart (map (opAt t) l))) e;
+                screened = passed-screened met q z;
+                listed = sorted ∙ ap (λ (l : List ℕ). rowNumbers (byTime (map (opAt t) l))) e;
               };
         }
 
-  -- as many by rising start
+  -- as many by rising time
   pub listed-few : (rows : List ℕ) → Listed t register rows → length rows ≤ largestCount
-  unfolding byStart
-  listed-few rows g = omega (arith, ap length (g .listed), length-map (byStart h) (λ x. x .row), sort-length startsFirst h, rows-fit)
+  unfolding byTime
+  listed-few rows g = omega (arith, ap length (g .listed), length-map (byTime h) (λ x. x .row), sort-length beginsFirst h, rows-fit)
 
   -- what a register that passes is answered
   passed-is : (met : Answer) → met ≡ screening t register → met .code ≡ 0 → met ≡ passed (length h)

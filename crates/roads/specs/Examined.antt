@@ -19,7 +19,7 @@ pub record Sound (t : List ℕ) : Type 0 where
 abbrev pub RowsOf : List ℕ → ℕ → List ℕ → Type 0
 RowsOf t register rows = rows ≡ rowsOf t register
 
--- a register is screened with this answer; where that refuses nothing, its rows stand by rising start
+-- a register is screened with this answer; where that refuses nothing, its rows stand by rising time
 pub record Examined (t : List ℕ) (register : ℕ) (met : Answer) (rows : List ℕ) : Type 0 where
   pub answer : met ≡ screening t register
   pub listed : met .code ≡ 0 → Listed t register rows

@@ -17,7 +17,7 @@ ghost use Rattle.roads.specs.Examined.{Sound, RowsOf, Examined, Examines
 // The numbers of a register: the fields of an answer.
 pub const FIELDS: usize = 4;
 
-// Screens a register by its rows, which are put by rising start where that refuses nothing; there is a place for the start of each row of
+// Screens a register by its rows, which are put by rising time where that refuses nothing; there is a place for the time of each row of
 // the table.
 pub fn examine(table: &[u64], keys: &mut [u64], rows: &mut [u64]) -> Answer
     requires { ⌜ Sound (now table) ⌝ }

@@ -1,39 +1,143 @@
-// One register of a history file: a pass over the bytes that keeps the numbers of its records, so that no other row is read into the table.
+// One register of a history file: a pass over the bytes that keeps the places of its records, so that no other row is read into the table.
 use history::Answer;
 use history::Row;
 ghost use mathlib.Core.Path.{_≡_};
-ghost use mathlib.Core.List.{_++_, flatMap};
 ghost use Prim.Native.Nat.{ℕ, _+_, _*_, _≤_, _<_};
-ghost use lib.ListN.{length, getD, drop};
+ghost use lib.Dec.{eqb};
+ghost use lib.ListN.{length, getD, take};
 ghost use Rattle.history.specs.Table.{largestCount};
-ghost use Rattle.records.specs.Records.{begun, recordAt, cells};
-ghost use Rattle.selection.specs.Selected.{isSound, isOf, Regular, Picks, selectAnswer, selectTable};
+ghost use Rattle.records.specs.Records.{recordFrom, Stands};
+ghost use Rattle.selection.specs.Selected.{headAt, plain, extentAt, stepAt, extentBy, Picking, Picks, findAnswer, Placed, copied, selectAnswer, selectTable};
 
-// What the first four bytes of a sound record say as one number, the length 34 above the kind: the two kinds are neighbours.
+// What the first four bytes of a sound record say as one number, the length above the kind: 34 with a write or a read, 18 with an opening.
 const WRITE_HEAD: u64 = 2228225;
 
 const READ_HEAD: u64 = 2228226;
 
-// Whether a record has the right length field and a right kind: one number for both, so that no branch has to guess the kind.
-fn is_sound(bytes: &[u8], row: usize) -> bool
-    requires { ⌜ row * 36 + 36 ≤ length (now bytes) ⌝ }
-    ensures { λ r. ⌜ r ≡ isSound (now (bytes .entry)) row ⌝ }
+const OPENING_HEAD: u64 = 1179651;
+
+// That number of the record at a place.
+fn head(bytes: &[u8], at: usize) -> u64
+    requires { ⌜ at + 4 ≤ length (now bytes) ⌝ }
+    ensures { λ r. ⌜ r ≡ headAt (now (bytes .entry)) at ⌝ }
 {
-    let at = row * records::RECORD;
-    let head = records::two(bytes, at + 2) + 65536 * records::two(bytes, at);
+    records::two(bytes, at + 2) + 65536 * records::two(bytes, at)
+}
+
+// Whether it is that of a record with stamps: the two right ones are neighbours, so that no branch has to guess the kind.
+fn is_plain(head: u64) -> bool
+    ensures { λ r. ⌜ r ≡ plain head ⌝ }
+{
     if head == WRITE_HEAD {
         return true;
     }
     head == READ_HEAD
 }
 
-// Whether the record bears the register.
-fn bears(bytes: &[u8], register: u64, row: usize) -> bool
-    requires { ⌜ row * 36 + 36 ≤ length (now bytes) ⌝ }
-    ensures { λ r. ⌜ r ≡ isOf (now (bytes .entry)) register row ⌝ }
+// The bytes of a record with such a number, and 0 where no sound record has it.
+fn extent_by(head: u64) -> usize
+    ensures { λ r. ⌜ r ≡ extentBy head ⌝ }
 {
-    let at = row * records::RECORD;
+    if is_plain(head) {
+        return records::RECORD;
+    }
+    if head == OPENING_HEAD {
+        return records::SHORT_RECORD;
+    }
+    0
+}
+
+// The bytes of the record at a place where it is sound and all there, else 0.
+fn extent(bytes: &[u8], at: usize) -> usize
+    requires { ⌜ at < length (now bytes) ⌝ }
+    ensures { λ r. ⌜ r ≡ extentAt (now (bytes .entry)) at ⌝ }
+{
+    let left = bytes.len() - at;
+    if left < records::SHORT_RECORD {
+        return 0;
+    }
+    let size = extent_by(head(bytes, at));
+    if left < size {
+        return 0;
+    }
+    size
+}
+
+// The same of record `row`, and 0 of a 1,025th.
+fn step(bytes: &[u8], row: usize, at: usize) -> usize
+    requires { ⌜ at < length (now bytes) ⌝ }
+    ensures { λ r. ⌜ r ≡ stepAt (now (bytes .entry)) row at ⌝ }
+{
+    if Row::LARGEST_COUNT <= row {
+        return 0;
+    }
+    extent(bytes, at)
+}
+
+// Whether the record at a place bears the register.
+fn bears(bytes: &[u8], register: u64, at: usize) -> bool
+    requires { ⌜ at + 20 ≤ length (now bytes) ⌝ }
+    ensures { λ r. ⌜ r ≡ eqb (recordFrom (now (bytes .entry)) at .register) register ⌝ }
+{
     records::eight(bytes, at + 4) == register
+}
+
+fn smaller(a: usize, b: usize) -> usize
+    ensures { λ r. ⌜ (r ≤ a) × (r ≤ b) ⌝ }
+{
+    if a < b {
+        return a;
+    }
+    b
+}
+
+// How far a pass is: the next record's number and place, and how many places are kept.
+struct Reached {
+    row: usize,
+    at: usize,
+    count: usize,
+}
+
+// Goes along the records with stamps up to one of another kind: most records have stamps, and this loop looks at little else.
+fn pick_plain(
+    bytes: &[u8],
+    register: u64,
+    picks: &mut [u16],
+    row: usize,
+    from: usize,
+    kept: usize,
+) -> Reached
+    requires { ⌜ Picking (now bytes) register row from kept (now picks) ⌝ }
+    ensures { λ r. ⌜ Picking (now (bytes .entry)) register (r .row) (r .at) (r .count) (now (picks .exit)) × (from ≤ r .at) ⌝ }
+{
+    let n = smaller(
+        (bytes.len() - from) / records::RECORD,
+        Row::LARGEST_COUNT - row,
+    );
+    let mut m: usize = kept;
+    let mut at: usize = from;
+    let mut k: usize = 0;
+    while k < n {
+        let here = at;
+        if !is_plain(head(bytes, here)) {
+            return Reached {
+                row: row + k,
+                at: here,
+                count: m,
+            };
+        }
+        at += records::RECORD;
+        k += 1;
+        if bears(bytes, register, here) {
+            picks[m] = here as u16;
+            m += 1;
+        }
+    }
+    Reached {
+        row: row + k,
+        at: at,
+        count: m,
+    }
 }
 
 // How many records bear the register, where the file is sound.
@@ -42,26 +146,35 @@ struct Picked {
     sound: bool,
 }
 
-// The numbers of the register's records, at the front of the slice.
+// The places of the register's records, at the front of the slice.
 fn pick(bytes: &[u8], register: u64, picks: &mut [u16]) -> Picked
-    requires { ⌜ Regular (now bytes) ⌝ }
     requires { ⌜ length (now picks) ≡ largestCount ⌝ }
     ensures { λ r. ⌜ Picks (now (bytes .entry)) register (now (picks .exit)) r ⌝ }
 {
-    let n = files::begun(bytes);
     let mut m: usize = 0;
     let mut i: usize = 0;
-    while i < n {
-        let row = i;
-        if !is_sound(bytes, row) {
+    let mut at: usize = 0;
+    while at < bytes.len() {
+        let reached = pick_plain(bytes, register, picks, i, at, m);
+        let here = reached.at;
+        m = reached.count;
+        if bytes.len() <= here {
+            return Picked {
+                count: m,
+                sound: true,
+            };
+        }
+        let size = step(bytes, reached.row, here);
+        if size == 0 {
             return Picked {
                 count: 0,
                 sound: false,
             };
         }
-        i += 1;
-        if bears(bytes, register, row) {
-            picks[m] = row as u16;
+        at = here + size;
+        i = reached.row + 1;
+        if bears(bytes, register, here) {
+            picks[m] = here as u16;
             m += 1;
         }
     }
@@ -71,28 +184,25 @@ fn pick(bytes: &[u8], register: u64, picks: &mut [u16]) -> Picked
     }
 }
 
-// The same of any file.
-fn choose(bytes: &[u8], register: u64, picks: &mut [u16]) -> Picked
+// The count of the register's rows, and their records' places at the front of the slice; or the first refusal of the whole file. Only a pass
+// that stops before the file's end has to be followed by the tests in their sequence, which say what the refusal is.
+pub fn find(bytes: &[u8], register: u64, picks: &mut [u16]) -> Answer
     requires { ⌜ length (now picks) ≡ largestCount ⌝ }
-    ensures { λ r. ⌜ Picks (now (bytes .entry)) register (now (picks .exit)) r ⌝ }
+    ensures answer { λ r. ⌜ r ≡ findAnswer (now (bytes .entry)) register ⌝ }
+    ensures places { λ r. ⌜ (r .code ≡ 0 → Placed (now (bytes .entry)) register (take (r .rows) (now (picks .exit)))) ⌝ }
 {
-    let n = files::begun(bytes);
-    if bytes.len() == n * records::RECORD {
-        if n <= Row::LARGEST_COUNT {
-            return pick(bytes, register, picks);
-        }
+    let found = pick(bytes, register, picks);
+    if !found.sound {
+        return files::inspect(bytes);
     }
-    Picked {
-        count: 0,
-        sound: false,
-    }
+    Answer::passed(found.count as u64)
 }
 
-// Puts the rows of some records at the front of the table.
-fn copy(bytes: &[u8], picks: &[u16], table: &mut [u64])
-    requires { ⌜ ((k : ℕ) → k < length (now picks) → getD (now picks) k 0 * 36 + 36 ≤ length (now bytes)) ⌝ }
-    requires { ⌜ length (now picks) * 5 ≤ length (now table) ⌝ }
-    ensures { λ _. ⌜ now (table .exit) ≡ flatMap (λ n. cells (recordAt (now (bytes .entry)) n)) (now (picks .entry)) ++ drop (length (flatMap (λ n. cells (recordAt (now (bytes .entry)) n)) (now (picks .entry)))) (now (table .entry)) ⌝ }
+// Puts the rows of the records at some places at the front of the table.
+pub fn copy(bytes: &[u8], picks: &[u16], table: &mut [u64])
+    requires stands { ⌜ ((k : ℕ) → k < length (now picks) → Stands (now bytes) (getD (now picks) k 0)) ⌝ }
+    requires room { ⌜ length (now picks) * 5 ≤ length (now table) ⌝ }
+    ensures { λ _. ⌜ now (table .exit) ≡ copied (now (bytes .entry)) (now (picks .entry)) (now (table .entry)) ⌝ }
 {
     let mut i: usize = 0;
     while i < picks.len() {
@@ -106,11 +216,11 @@ pub fn read(bytes: &[u8], register: u64, table: &mut [u64]) -> Answer
     ensures { λ r. ⌜ (r ≡ selectAnswer (now (bytes .entry)) register (now (table .entry))) × (now (table .exit) ≡ selectTable (now (bytes .entry)) register (now (table .entry))) ⌝ }
 {
     let mut picks = [0u16; Row::LARGEST_COUNT];
-    let found = choose(bytes, register, &mut picks);
-    if !found.sound {
-        return files::inspect(bytes);
+    let found = find(bytes, register, &mut picks);
+    if found.code != Answer::FRESH {
+        return found;
     }
-    let m = found.count;
+    let m = found.rows as usize;
     let answer = files::room_for(m, m * Row::COLUMNS, table.len());
     if answer.code != Answer::FRESH {
         return answer;

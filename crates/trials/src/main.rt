@@ -1,6 +1,6 @@
 // Small random histories: the mark of each question against a trial of all orders, each judged by the order check. A history that the screening
-// refuses is passed over. A line for each question counts the histories compared, those with equal stamps, the marks and the differences; held to
-// the file stdout.
+// refuses is passed over. A line for each question counts the histories compared, those with equal stamps, those with an opening, the marks and the
+// differences; held to the file stdout.
 use history::Answer;
 use history::Op;
 use history::Row;
@@ -10,7 +10,7 @@ ghost use lib.ListN.{length};
 
 const REGISTER: u64 = 7;
 
-// The histories made, of which 3,000 pass the screening.
+// The histories made, of which 3,028 pass the screening.
 const HISTORIES: u64 = 3230;
 
 // Twice six less one: always enough for LBT.
@@ -48,10 +48,17 @@ fn size(x: u64) -> usize
     ROWS - pick(next(x), bound) as usize
 }
 
-// The first operation writes, and the later one is the more often it reads.
+// The first operation is an opening in half of the histories and else writes, and the later one is the more often it reads.
 fn kind(i: usize, x: u64) -> u64 {
-    if pick(x, 6) < i as u64 {
+    let n = pick(x, 6);
+    if n < i as u64 {
         return Op::READ;
+    }
+    if 0 < i {
+        return Op::WRITE;
+    }
+    if n < 3 {
+        return Op::OPENING;
     }
     Op::WRITE
 }
@@ -60,7 +67,7 @@ fn kind(i: usize, x: u64) -> u64 {
 fn value(table: &[u64], i: usize, kind: u64, x: u64) -> u64
     requires { ⌜ i * 5 + 5 ≤ length (now table) ⌝ }
 {
-    if kind == Op::WRITE {
+    if kind != Op::READ {
         return i as u64;
     }
     if i == 0 {
@@ -68,6 +75,22 @@ fn value(table: &[u64], i: usize, kind: u64, x: u64) -> u64
     }
     let j = pick(x, i as u64) as usize;
     table[j * Row::COLUMNS + Row::VALUE]
+}
+
+// The start of an operation that takes effect at a time, and begins less than `reach` before it, but not below 0.
+fn started(at: u64, before: u64) -> u64 {
+    if at < before {
+        return 0;
+    }
+    at - before
+}
+
+// A stamp of an operation, which is 0 for an opening.
+fn stamp(kind: u64, at: u64) -> u64 {
+    if kind == Op::OPENING {
+        return 0;
+    }
+    at
 }
 
 // Puts operation i into its row: it takes effect at a time of its own, and begins and ends less than `reach` away from it. Stamps may be equal.
@@ -80,9 +103,9 @@ fn operation(table: &mut [u64], i: usize, reach: u64, seed: u64) -> u64
     let b = next(a);
     let c = next(b);
     let number = i as u64;
-    let at = 100 + 2 * number;
-    let start = at - pick(b, reach);
-    let finish = at + pick(c, reach);
+    let at = 2 * number;
+    let start = stamp(kind, started(at, pick(b, reach)));
+    let finish = stamp(kind, at + pick(c, reach));
     let base = i * Row::COLUMNS;
     table[base + Row::REGISTER] = REGISTER;
     table[base + Row::KIND] = kind;
@@ -220,17 +243,24 @@ fn agrees(table: &[u64], question: u64, k: u64, fresh: bool, list: &mut [u64]) -
     orders::check(table, REGISTER, k, list).code == Answer::FRESH
 }
 
+// Whether the operation has the stamp; an opening's are no times of its own.
+fn has_stamp(o: Op, stamp: u64) -> bool {
+    if o.is_opening() {
+        return false;
+    }
+    if o.start == stamp {
+        return true;
+    }
+    o.finish == stamp
+}
+
 // Whether one of the first rows has the stamp.
 fn has(table: &[u64], rows: usize, stamp: u64) -> bool
     requires { ⌜ rows * 5 ≤ length (now table) ⌝ }
 {
     let mut i: usize = 0;
     while i < rows {
-        let o = Op::at(table, i);
-        if o.start == stamp {
-            return true;
-        }
-        if o.finish == stamp {
+        if has_stamp(Op::at(table, i), stamp) {
             return true;
         }
         i += 1;
@@ -238,19 +268,42 @@ fn has(table: &[u64], rows: usize, stamp: u64) -> bool
     false
 }
 
+// Whether a stamp of row i is equal to its other one or to one of a row before it.
+fn meets(table: &[u64], i: usize) -> bool
+    requires { ⌜ i * 5 + 5 ≤ length (now table) ⌝ }
+{
+    let o = Op::at(table, i);
+    if o.is_opening() {
+        return false;
+    }
+    if o.start == o.finish {
+        return true;
+    }
+    if has(table, i, o.start) {
+        return true;
+    }
+    has(table, i, o.finish)
+}
+
 // Whether two stamps of the table are equal.
 fn tied(table: &[u64]) -> bool {
     let n = table.len() / Row::COLUMNS;
     let mut i: usize = 0;
     while i < n {
-        let o = Op::at(table, i);
-        if o.start == o.finish {
+        if meets(table, i) {
             return true;
         }
-        if has(table, i, o.start) {
-            return true;
-        }
-        if has(table, i, o.finish) {
+        i += 1;
+    }
+    false
+}
+
+// Whether a row of the table is an opening.
+fn opened(table: &[u64]) -> bool {
+    let n = table.len() / Row::COLUMNS;
+    let mut i: usize = 0;
+    while i < n {
+        if Op::at(table, i).is_opening() {
             return true;
         }
         i += 1;
@@ -272,16 +325,18 @@ fn more(count: u64, so: bool) -> u64 {
 struct Tally {
     histories: u64,
     tied: u64,
+    opened: u64,
     fresh: u64,
     stale: u64,
     differences: u64,
 }
 
 impl Tally {
-    fn add(self, tied: bool, fresh: bool, same: bool) -> Tally {
+    fn add(self, tied: bool, opened: bool, fresh: bool, same: bool) -> Tally {
         Tally {
             histories: more(self.histories, true),
             tied: more(self.tied, tied),
+            opened: more(self.opened, opened),
             fresh: more(self.fresh, fresh),
             stale: more(self.stale, !fresh),
             differences: more(self.differences, !same),
@@ -298,7 +353,7 @@ fn tallied(tally: Tally, table: &[u64], question: u64, k: u64) -> Tally
     let fresh = trial(table, k, &mut orders[..n]);
     let mut list = [0u64; ROWS];
     let same = agrees(table, question, k, fresh, &mut list[..n]);
-    tally.add(tied(table), fresh, same)
+    tally.add(tied(table), opened(table), fresh, same)
 }
 
 // One history more, made in the whole table; one that the screening refuses is passed over.
@@ -327,6 +382,7 @@ fn compared(question: u64, k: u64) -> Tally {
     let mut tally = Tally {
         histories: 0,
         tied: 0,
+        opened: 0,
         fresh: 0,
         stale: 0,
         differences: 0,
@@ -348,6 +404,7 @@ fn show(question: u64, tally: Tally) {
     field(b"question ", question);
     field(b": histories ", tally.histories);
     field(b", with equal stamps ", tally.tied);
+    field(b", with an opening ", tally.opened);
     field(b", fresh ", tally.fresh);
     field(b", stale ", tally.stale);
     field(b", differences ", tally.differences);

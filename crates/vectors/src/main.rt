@@ -1,5 +1,5 @@
-// The histories with known marks of document 01, executed: a line for each call, name,code,row,rows,trials, and where a list was lent a line with
-// the list after the call; held to the file stdout.
+// The histories with known marks of document 01, and some with an opening (02, W-207), executed: a line for each call,
+// name,code,row,rows,trials, and where a list was lent a line with the list after the call; held to the file stdout.
 use history::Row;
 
 const C2: [u64; 15] = [7, 1, 1, 1, 2, 7, 1, 2, 3, 4, 7, 2, 1, 5, 6];
@@ -78,6 +78,18 @@ const LARGEST: [u64; 5] = [7, 1, 1, 1, 4611686018427387903];
 const TOO_LARGE: [u64; 5] = [7, 1, 1, 1, 4611686018427387904];
 
 const EMPTY_SPAN: [u64; 5] = [7, 1, 1, 3, 3];
+
+// An opening that is read after one write, and after two.
+const READ_AFTER_ONE: [u64; 15] = [7, 3, 1, 0, 0, 7, 1, 2, 1, 2, 7, 2, 1, 3, 4];
+
+const READ_AFTER_TWO: [u64; 20] = [7, 3, 1, 0, 0, 7, 1, 2, 1, 2, 7, 1, 3, 3, 4, 7, 2, 1, 5, 6];
+
+// A write from 0 inside the zone of the opening, which stands in the last row.
+const INSIDE_OPENING: [u64; 15] = [7, 1, 2, 0, 1, 7, 2, 1, 2, 3, 7, 3, 1, 0, 0];
+
+const TWO_OPENINGS: [u64; 15] = [7, 3, 1, 0, 0, 7, 1, 1, 1, 2, 7, 3, 2, 0, 0];
+
+const OPENING_AT_1: [u64; 5] = [7, 3, 1, 0, 1];
 
 // Fills the table with writes of register 7, one after the other, each of a value of its own.
 fn fill(table: &mut [u64]) {
@@ -196,6 +208,24 @@ fn marked_stamps() {
     three(b"C12 start equal to finish marked", &EMPTY_SPAN);
 }
 
+fn opened() {
+    three(b"an opening read after one write", &READ_AFTER_ONE);
+    three(b"an opening read after two writes", &READ_AFTER_TWO);
+    three(b"a write inside the zone of the opening", &INSIDE_OPENING);
+}
+
+fn refused_openings() {
+    answer_lines::show(b"two openings", screening::screen(&TWO_OPENINGS, 7));
+    answer_lines::show(
+        b"an opening with a stamp",
+        screening::screen(&OPENING_AT_1, 7),
+    );
+    answer_lines::show(
+        b"an opening that is not first in an order",
+        orders::check(&INSIDE_OPENING, 7, 2, &[0, 2, 1]),
+    );
+}
+
 // One mark of register 7; of the list the first and the last two places are shown.
 fn ends(name: &[u8], table: &[u64], question: u64, list: &mut [u64]) {
     answer_lines::show(name, marker::mark(table, 7, question, 524800, list));
@@ -249,6 +279,8 @@ fn main() {
     more_marks();
     allowances();
     marked_stamps();
+    opened();
+    refused_openings();
     marked_limits();
     refused_limits();
 }

@@ -3,6 +3,7 @@
 use Prim.Native.Nat.{ℕ, _+_, _≤_, _<_}
 use mathlib.Core.Path.{_≡_, refl, sym, ap, _∙_}
 use mathlib.Core.List.{List, [], _∷_, _++_, List·Memᴰ as In, List·Memᴰ·head as here, List·Memᴰ·tail as there}
+use mathlib.Core.Logic.{inl}
 use native.Mathlib.Omega.{arith}
 use native.Mathlib.Decide.{decLe}
 use lib.ListN.{length}
@@ -68,7 +69,7 @@ module _ (pos : Op → ℕ) where
     where
       go : (z : Op) → Write H z → Dec (z .start ≤ w .finish) → z .start ≤ w .finish
       go z m (yes h) = h
-      go z m (no h) = absurd (omega (arith, k .valid w z (a .wr .mem) (m .mem) (omega arith), a .top z m))
+      go z m (no h) = absurd (omega (arith, k .valid w z (a .wr .mem) (m .mem) (inl (omega arith)), a .top z m))
 
   -- COMPLETE: the walk over a prepared history that has a witness is fresh.
   pub complete : {H : List Op} {w : Walk} → Prepared H → Witness pos 2 H → Walks H w → (t : ℕ) × (o : List Op) × (w ≡ fresh t o)

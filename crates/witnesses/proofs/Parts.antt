@@ -147,6 +147,7 @@ module _ (p : Op → Bool) {H : List Op} (c : Closed p H) where
       record {
         proper = proper-keep (g .proper);
         rising = pairs-keep p (g .rising);
+        clock = λ x y m n. g .clock x y (sub x m) (sub y n);
         cross = λ x y m n. g .cross x y (sub x m) (sub y n);
         ends = λ x y m n. g .ends x y (sub x m) (sub y n);
         first = λ w r d. g .first w r (reads-sub sub d);
@@ -154,7 +155,7 @@ module _ (p : Op → Bool) {H : List Op} (c : Closed p H) where
 
 -- in its own sequence, by rising start, no operation precedes an earlier one
 pub in-sequence : {H : List Op} → Prepared H → Pairs Before H
-in-sequence g = pairs-map (pairs-both (g .proper .rows) (g .rising)) (λ x y m n r. record { apart = r .0; valid = omega (arith, r .1, g .proper .span y n) })
+in-sequence g = pairs-map (pairs-both (g .proper .rows) (g .rising)) (λ x y m n r. record { apart = r .0; valid = λ p. omega (arith, r .1, g .proper .span y n, g .clock y x n m p) })
 
 -- what the placing of w leaves is prepared again
 pub prepared-rest : (w : Op) {H : List Op} → Quiet w H → Prepared H → Prepared (rest w H)

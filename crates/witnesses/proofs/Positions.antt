@@ -1,19 +1,19 @@
 -- A history is k-atomic exactly when it has a witness: the places in an order are one, and the operations by position are an order.
 -- Assumes nothing.
-use Prim.Native.Nat.{ℕ, _≤_, _<_}
+use Prim.Native.Nat.{ℕ, _<_}
 use mathlib.Core.Path.{_≡_, refl, sym, ap, _∙_}
 use mathlib.Core.Logic.{_⊎_, inl, inr, _≢_}
 use mathlib.Core.List.{List, [], _∷_, _++_, List·Memᴰ as In, List·Memᴰ·head as here, List·Memᴰ·tail as there, List·Memᴰ·append-cases, Memᴰ·append-left, Memᴰ·append-right}
 use native.Mathlib.Omega.{arith}
-use native.Mathlib.Decide.{decLt}
 use lib.Dec.{leb}
 use Rattle.lists.specs.Sorts.{sort}
+use Rattle.lists.proofs.Tests.{both}
 use Rattle.lists.proofs.Cover.{no-longer-by}
 use Rattle.lists.proofs.Maps.{split-at}
 use Rattle.lists.proofs.Pairs.{pairs-head, pairs-tail, pairs-keep, pairs-front, pairs-behind, pairs-across, pairs-map}
 use Rattle.lists.proofs.Sorts.{in-sort, sort-in, by-key}
 use Rattle.history.specs.declared.Op.{Op}
-use Rattle.history.specs.Table.{isWrite}
+use Rattle.history.specs.Table.{isWrite, Precedes}
 use Rattle.methods.specs.Place.{writes, writeCount}
 use Rattle.witnesses.specs.Histories.{Write, Reads, Proper}
 use Rattle.witnesses.specs.Orders.{Before, Orders}
@@ -28,10 +28,14 @@ module _ {k : ℕ} {H o : List Op} (g : Proper H) (h : Orders k H o) where
   apart x y e (first b) = absurd (omega (arith, bef-place (h .pairs) b))
   apart x y e (second b) = absurd (omega (arith, bef-place (h .pairs) b))
 
-  valid : (x y : Op) → In x H → x .finish < y .start → Compared x y o → place o x < place o y
-  valid x y m l (equal q) = absurd (omega (arith, g .span x m, ap (λ u. u .start) q))
+  never : (x : Op) → In x H → Precedes x x → ⊥
+  never x m (inl l) = omega (arith, g .span x m)
+  never x m (inr (a, b)) = both a b
+
+  valid : (x y : Op) → In x H → Precedes x y → Compared x y o → place o x < place o y
+  valid x y m l (equal q) = absurd (never x m (rw (← q) at l))
   valid x y m l (first b) = bef-place (h .pairs) b
-  valid x y m l (second b) = absurd (omega (arith, bef-pair (h .pairs) b .valid))
+  valid x y m l (second b) = absurd (bef-pair (h .pairs) b .valid l)
 
   -- A read r stands behind its write w, with the writes of `middle` between: fewer than k.
   record Parted (w r : Op) : Type 0 where
@@ -109,11 +113,7 @@ module _ {k : ℕ} {H : List Op} {pos : Op → ℕ} (g : Proper H) (v : Witness 
   climbs = pairs-map (by-key pos (λ x y n e. n (sym e)) (g .rows)) (λ x y m n h. let d : pos x ≢ pos y = λ e. h .1 (ap (λ o. o .row) (v .apart x y (in-sort _ H m) (in-sort _ H n) e)) in omega arith)
 
   may-stand : (x y : Op) → In x H → In y H → pos x < pos y → Before x y
-  may-stand x y m n h = record { apart = λ e. omega (arith, ap pos (named (g .rows) x y m n e)); valid = go (decLt (y .finish) (x .start)) }
-    where
-      go : Dec (y .finish < x .start) → x .start ≤ y .finish
-      go (yes l) = absurd (omega (arith, v .valid y x n m l))
-      go (no l) = omega arith
+  may-stand x y m n h = record { apart = λ e. omega (arith, ap pos (named (g .rows) x y m n e)); valid = λ l. omega (arith, v .valid y x n m l) }
 
   -- a read's write stands in front of it, with fewer than k writes between
   found : (a : List Op) (r : Op) (c : List Op) → Climbs pos (a ++ (r ∷ c)) → ((x : Op) → In x (a ++ (r ∷ c)) → In x H) → (w : Op) → Reads H w r →

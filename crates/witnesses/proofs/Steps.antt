@@ -76,7 +76,7 @@ module _ (w : Op) (H : List Op) (g : Prepared H) (k : Write H w) where
 
   -- what rests may stand before what is placed
   rest-before : (x y : Op) → In x (rest w H) → Placed y → Before x y
-  rest-before x y m p = record { apart = λ e. go p (named (g .proper .rows) x y (r .0) (from-segment y p) e); valid = ends p }
+  rest-before x y m p = record { apart = λ e. go p (named (g .proper .rows) x y (r .0) (from-segment y p) e); valid = λ q. omega (arith, ends p, g .clock y x (from-segment y p) (r .0) q) }
     where
       r : In x H × (x .start ≤ w .finish) × (x .value ≢ w .value)
       r = in-rest w H m
@@ -106,7 +106,7 @@ module _ (w : Op) (H : List Op) (g : Prepared H) (k : Write H w) where
           let b = in-later w H n in
           record {
             apart = λ e. omega (arith, a .1, b .1, ap (λ o. o .start) (named (g .proper .rows) x y (a .0) (b .0) e));
-            valid = omega (arith, a .1, b .1, g .proper .span y (b .0));
+            valid = λ p. omega (arith, a .1, b .1, g .proper .span y (b .0), g .clock y x (b .0) (a .0) p);
           }
 
       first : (y : Op) → In y (reads w H) ⊎ In y (later w H) → Before w y
@@ -114,13 +114,13 @@ module _ (w : Op) (H : List Op) (g : Prepared H) (k : Write H w) where
           let a = in-reads m in
           record {
             apart = λ e. both (k .write) (ap isWrite (named (g .proper .rows) w y (k .mem) (a .0) e) ∙ a .3);
-            valid = omega (arith, g .proper .span w (k .mem), read-ends m);
+            valid = λ p. omega (arith, g .proper .span w (k .mem), read-ends m, g .clock y w (a .0) (k .mem) p);
           }
       first y (inr m) =
           let b = in-later w H m in
           record {
             apart = λ e. omega (arith, b .1, g .proper .span w (k .mem), ap (λ o. o .start) (named (g .proper .rows) w y (k .mem) (b .0) e));
-            valid = omega (arith, b .1, g .proper .span w (k .mem), g .proper .span y (b .0));
+            valid = λ p. omega (arith, b .1, g .proper .span w (k .mem), g .proper .span y (b .0), g .clock y w (b .0) (k .mem) p);
           }
 
   -- SOUND: what is placed, behind an order of what is left, makes an order of all, where what is later is reads of the two last values.
@@ -159,7 +159,7 @@ pub record Last (pos : Op → ℕ) (H : List Op) (w : Op) : Type 0 where
 module _ {pos : Op → ℕ} {H : List Op} {w : Op} (k : Witness pos 2 H) (a : Last pos H w) where
   -- what is later than the last write comes behind it, so it is no write
   behind : (o : Op) → In o (later w H) → pos w < pos o
-  behind o m = let i = in-later w H m in k .valid w o (a .wr .mem) (i .0) (i .1)
+  behind o m = let i = in-later w H m in k .valid w o (a .wr .mem) (i .0) (inl (i .1))
 
   pub step-quiet : Quiet w H
   step-quiet o m = go (test (isWrite o))

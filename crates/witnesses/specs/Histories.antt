@@ -7,7 +7,7 @@ use mathlib.Core.Bool.{true, false}
 use mathlib.Core.List.{List, List·Memᴰ as In}
 use Rattle.lists.specs.Pairs.{Pairs}
 use Rattle.history.specs.declared.Op.{Op}
-use Rattle.history.specs.Table.{isWrite}
+use Rattle.history.specs.Table.{isWrite, Precedes}
 
 -- w is a write of H (000, section II.A)
 pub record Write (H : List Op) (w : Op) : Type 0 where
@@ -32,10 +32,11 @@ pub record Proper (H : List Op) : Type 0 where
   pub one : (x y : Op) → Write H x → Write H y → x .value ≡ y .value → x ≡ y
   pub dict : (r : Op) → In r H → isWrite r ≡ false → (w : Op) × Reads H w r
 
--- A prepared one: it is listed by rising start, no two stamps are the same, and a write finishes before its reads do (01, "Doubled stamps").
+-- A prepared one: it is listed by rising start, precedence is by stamps alone, no two stamps are the same, and a write finishes before its reads do (01, "Doubled stamps").
 pub record Prepared (H : List Op) : Type 0 where
   pub proper : Proper H
   pub rising : Pairs (λ a b. a .start < b .start) H
+  pub clock : (x y : Op) → In x H → In y H → Precedes x y → x .finish < y .start
   pub cross : (x y : Op) → In x H → In y H → x .finish ≢ y .start
   pub ends : (x y : Op) → In x H → In y H → x .finish ≡ y .finish → x ≡ y
   pub first : (w r : Op) → Reads H w r → w .finish < r .finish

@@ -7,6 +7,7 @@ use mathlib.Core.List.{List, List·Memᴰ as In}
 use lib.ListN.{length}
 use Rattle.lists.specs.Pairs.{Pairs}
 use Rattle.history.specs.declared.Op.{Op}
+use Rattle.history.specs.Table.{Precedes}
 use Rattle.witnesses.specs.Histories.{Write, Reads}
 
 module _ (pos : Op → ℕ) where
@@ -23,6 +24,6 @@ module _ (pos : Op → ℕ) where
   -- different operations have different positions, precedence is kept, and each read follows its write with fewer than k writes between
   pub record Witness (k : ℕ) (H : List Op) : Type 0 where
     pub apart : (x y : Op) → In x H → In y H → pos x ≡ pos y → x ≡ y
-    pub valid : (x y : Op) → In x H → In y H → x .finish < y .start → pos x < pos y
+    pub valid : (x y : Op) → In x H → In y H → Precedes x y → pos x < pos y
     pub after : (w r : Op) → Reads H w r → pos w < pos r
     pub near : (w r : Op) → Reads H w r → (zs : List Op) → Climbs zs → ((z : Op) → In z zs → Between H w r z) → length zs < k

@@ -1,20 +1,20 @@
 -- A cluster's smallest finish is below another's largest start by rank exactly where it is by the recorded stamps: at an equal stamp starts come
--- before finishes (document 02, W-203).
+-- before finishes (document 02, W-203). The opening's is below every other start by rank, whatever the stamps are (02, W-207).
 -- Assumes nothing.
 use Prim.Native.Nat.{ℕ, _*_, _<_}
-use mathlib.Core.Path.{_≡_, ap, sym, _∙_}
-use mathlib.Core.Bool.{true, false}
+use mathlib.Core.Path.{_≡_, refl, ap, sym, _∙_}
+use mathlib.Core.Bool.{Bool, true, false, _||_}
 use mathlib.Core.Logic.{_⊎_, inl, inr}
 use mathlib.Core.List.{List, List·Memᴰ as In}
 use native.Mathlib.Omega.{arith}
-use lib.Dec.{ltb}
+use lib.Dec.{ltb, eqb}
 use borrow.Author.Tests.{eqb-true, eq-eqb, ltb-true, ltb-false, lt-ltb}
 use Rattle.lists.specs.Lists.{keep}
-use Rattle.lists.proofs.Tests.{test}
+use Rattle.lists.proofs.Tests.{test, both}
 use Rattle.lists.proofs.Members.{in-keep, keep-in}
 use Rattle.lists.proofs.Maps.{in-map, map-in}
 use Rattle.history.specs.declared.Op.{Op}
-use Rattle.history.specs.Table.{largestStamp}
+use Rattle.history.specs.Table.{largestStamp, isOpening, isWrite, Precedes}
 use Rattle.history.specs.Screen.{Screened}
 use Rattle.methods.specs.Extremes.{least, greatest}
 use Rattle.methods.specs.Ranks.{byRank, ranked}
@@ -23,12 +23,21 @@ use Rattle.methods.specs.Zones.{firstFinish, lastStart}
 use Rattle.witnesses.specs.Histories.{Write, Reads, Prepared}
 use Rattle.witnesses.proofs.Extremes.{least-low, least-is, greatest-in, greatest-is}
 use Rattle.preparation.specs.Claims.{RowsRise}
-use Rattle.preparation.proofs.Ranks.{keeps-precedence}
-use Rattle.preparation.proofs.Timed.{from-sorted, into-sorted, timed}
+use Rattle.preparation.proofs.Ranks.{latest-small, keeps-precedence}
+use Rattle.preparation.proofs.Timed.{screened-proper, from-sorted, into-sorted, timed}
 use Rattle.preparation.proofs.Finish.{New, whole, cut, new, new-le}
 use Rattle.preparation.proofs.Shorten.{prepared-history}
 use Rattle.clusters.proofs.Clusters.{last-is, first-finish, starts-by, ends-from}
 use Rattle.zone_list.specs.ZoneList.{stampsOf}
+
+-- an opening is counted as a write
+pub opening-writes : (x : Op) → isOpening x ≡ true → isWrite x ≡ true
+unfolding isWrite
+opening-writes x e = go (eqb (x .kind) 1)
+  where
+    go : (b : Bool) → (b || isOpening x) ≡ true
+    go true = refl
+    go false = e
 
 module _ {size : ℕ} {h : List Op} (s : Screened size h) (a : RowsRise h) where
   -- the operations with ranks for stamps, and the prepared ones
@@ -68,7 +77,27 @@ module _ {size : ℕ} {h : List Op} (s : Screened size h) (a : RowsRise h) where
   in-cluster : (w : Op) {x : Op} → In x h → x .value ≡ w .value → In x (rowsOf w)
   in-cluster w {x} m e = keep-in (sameValue w) h m (eq-eqb (x .value) (w .value) e)
 
-  module _ {v w : Op} (kv : Write H v) (kw : Write H w) where
+  -- a write of the register with the value of a prepared one that is no opening is none either
+  plain : {v x : Op} → Write H v → isOpening v ≡ false → In x h → x .value ≡ v .value → isOpening x ≡ false
+  unfolding isWrite isOpening
+  plain {v} {x} k n m e = go (test (isOpening x))
+    where
+      go : (isOpening x ≡ true) ⊎ (isOpening x ≡ false) → isOpening x ≡ false
+      go (inr f) = f
+      go (inl f) =
+          let (o, i, d) = in-prepared (k .mem) in
+          let u = ap (λ (z : Op). z .value) d in
+          let q : x ≡ o =
+          screened-proper s a .one x o (record { mem = m; write = opening-writes x f }) (record { mem = i; write = ap (λ (z : Op). isWrite z) (sym d) ∙ k .write })
+          (e ∙ u) in
+          ap (λ (z : Op). isOpening z) q ∙ ap (λ (z : Op). isOpening z) (sym d) ∙ n
+
+  module _ {v w : Op} (kv : Write H v) (kw : Write H w) (not-opening : isOpening v ≡ false) where
+    -- precedence of an operation of v's cluster is by the stamps alone
+    stamps-alone : (x y : Op) → In x h → x .value ≡ v .value → Precedes x y → x .finish < y .start
+    stamps-alone x y i p (inl l) = l
+    stamps-alone x y i p (inr (b, c)) = absurd (both b (plain kv not-opening i p))
+
     -- by the stamps, and so by rank
     pub stamps-rank : stampsOf h v .finish < stampsOf h w .start → firstFinish H v < lastStart H w
     unfolding stampsOf
@@ -78,7 +107,7 @@ module _ {size : ℕ} {h : List Op} (s : Screened size h) (a : RowsRise h) where
             → firstFinish H v < lastStart H w
         go (inl e) (inl d) l = absurd (omega arith)
         go (inr k) (inl d) l = absurd (omega arith)
-        go (inl e) (inr (y, n, d)) l = let k = s .spans y (of-cluster w n .0) in absurd (omega (arith, k .0, k .1))
+        go (inl e) (inr (y, n, d)) l = let k = s .spans y (of-cluster w n .0) in absurd (omega (arith, k .0, k .1, latest-small y))
         go (inr (x, m, e)) (inr (y, n, d)) l =
             let (i, p) = of-cluster v m in
             let (j, q) = of-cluster w n in
@@ -88,7 +117,7 @@ module _ {size : ℕ} {h : List Op} (s : Screened size h) (a : RowsRise h) where
               ends-from g {w = v} {x = anew x} kv (prepared-in i) p,
               starts-by g {w = w} {x = anew y} kw (prepared-in j) q,
               new-le R (byRank h x) (ranked-in i),
-              keeps-precedence h x y i j .1 (omega arith),
+              keeps-precedence h (s .spans) x y i j .1 (inl (omega arith)),
             )
 
     -- by rank, and so by the stamps
@@ -115,7 +144,7 @@ module _ {size : ℕ} {h : List Op} (s : Screened size h) (a : RowsRise h) where
               arith,
               least-low (λ o. o .finish) largestStamp (rowsOf v) {x = x} (in-cluster v i p),
               greatest-in (λ o. o .start) 0 (rowsOf w) {x = y} (in-cluster w j c),
-              keeps-precedence h x y i j .0 t,
+              stamps-alone x y i p (keeps-precedence h (s .spans) x y i j .0 t),
             )
 
         go : (x y : Op) → In x h → In y h → x .value ≡ v .value → y .value ≡ w .value → newFinish R (byRank h x) < 2 * byRank h y .start → New R (byRank h x)

@@ -11,35 +11,32 @@ use lib.Seq.{sets, length-take-le}
 use Rattle.lists.specs.Lists.{keep}
 use Rattle.lists.specs.Sorts.{sort}
 use Rattle.lists.proofs.Entries.{flat-long}
-use Rattle.lists.proofs.Maps.{map-in}
 use Rattle.lists.proofs.Images.{getD-map, getD-in}
 use Rattle.history.specs.declared.Op.{Op}
 use Rattle.history.specs.Table.{largestStamp, opAt, history}
 use Rattle.methods.specs.declared.Zone.{Zone}
 use Rattle.methods.specs.Extremes.{least, greatest}
-use Rattle.methods.specs.Prepared.{sameValue, startsFirst, byStart, prepared}
+use Rattle.methods.specs.Prepared.{sameValue, prepared}
+use Rattle.preparation.specs.Times.{beginsFirst, byTime}
 use Rattle.methods.specs.Place.{writes}
 use Rattle.methods.specs.Zones.{forward, zoneOf, lowFirst}
 use Rattle.methods.specs.Mark.{written}
-use Rattle.preparation.proofs.Rows.{history-rows}
-use Rattle.preparation.proofs.Timed.{from-sorted}
+use Rattle.preparation.proofs.Ranks.{latest-small}
 use Rattle.positions.specs.Places.{upto}
 use Rattle.positions.specs.Columns.{Cols, size, wr, mine, nothing, op, Of, Sound}
 use Rattle.positions.proofs.Columns.{size-is, same-is, of-sound}
 use Rattle.writers.specs.Writers.{rowOp}
 use Rattle.columns.specs.Rows.{Listed}
 use Rattle.columns.specs.Made.{Made}
-use Rattle.columns.proofs.Listed.{listed-ops}
+use Rattle.columns.proofs.Listed.{listed-ops, in-history}
 use Rattle.columns.proofs.Made.{prepared-rows, value-at}
 use Rattle.columns.proofs.Lent.{rows-long as lent-long}
-use Rattle.zones.specs.Zones.{Ends, Zoned, writesAt, byLow}
+use Rattle.zones.specs.Zones.{zoneBy, Ends, Zoned, writesAt, byLow}
 use Rattle.zones.proofs.LastStarts.{sound-ends}
-use Rattle.zones.proofs.Zone.{write-at}
-use Rattle.zones.proofs.ByLow.{write-of, by-low, by-low-in, by-low-write}
+use Rattle.zones.proofs.ByLow.{write-of, zone-at, by-low, by-low-in, by-low-write}
 use Rattle.zone_list.specs.ZoneList.{stampsOf, directed, numbersOf, zoneList}
 use Rattle.zone_list.specs.Stamps.{stampsAt, Writes, numbersAt, OfRows}
 use Rattle.zone_list.proofs.Clusters.{least-sort, greatest-sort, least-map, greatest-map, least-own, greatest-own, keep-at}
-use Rattle.zone_list.proofs.Comparing.{compares}
 
 -- four numbers stored one by one
 pub four-stored : (list : List ℕ) (at a b c d : ℕ) → set (set (set (set list at a) (at + 1) b) (at + 2) c) (at + 3) d ≡ sets list at (a ∷ b ∷ c ∷ d ∷ [])
@@ -49,10 +46,6 @@ four-stored list at a b c d =
     let p3 : at + 3 ≡ suc (suc (suc at)) = omega arith in
     rw (p1, p2, p3) refl
 
--- those of a write with its zone
-pub zone-stored : (list : List ℕ) (at row : ℕ) (z : Zone) (b : Bool) → forward z ≡ b → (new : List ℕ) → new ≡ sets list at (row ∷ directed b z) → new ≡ sets list at (row ∷ directed (forward z) z)
-zone-stored list at row z b e new q = q ∙ ap (λ (x : Bool). sets list at (row ∷ directed x z)) (sym e)
-
 -- four numbers, whichever way
 directed-long : (n : ℕ) (b : Bool) (s : Zone) → length (n ∷ directed b s) ≡ 4
 directed-long n true s = refl
@@ -61,8 +54,8 @@ directed-long n false s = refl
 pub numbers-long : (h H : List Op) (w : Op) → length (numbersOf h H w) ≡ 4
 numbers-long h H w = directed-long (w .row) (forward (zoneOf H w)) (stampsOf h w)
 
-pub four-at : (t rows writer : List ℕ) (w : ℕ) → length (numbersAt t rows writer w) ≡ 4
-four-at t rows writer w = directed-long (getD rows w 0) (forward (stampsAt t rows writer w)) (stampsAt t rows writer w)
+pub four-at : (t rows finish writer late : List ℕ) (w : ℕ) → length (numbersAt t rows finish writer late w) ≡ 4
+four-at t rows finish writer late w = directed-long (getD rows w 0) (forward (zoneBy finish late w)) (stampsAt t rows writer w)
 
 -- what is joined of each element is joined of its image
 flat-map : (f : ℕ → List ℕ) (k : Op → List ℕ) (q : ℕ → Op) (l : List ℕ) → ((x : ℕ) → In x l → f x ≡ k (q x)) → flatMap f l ≡ flatMap k (map q l)
@@ -91,8 +84,7 @@ module _ {t : List ℕ} {register : ℕ} {rows : List ℕ} (g : Listed t registe
   -- a finish is no more than the largest stamp
   stamp-small : (j : ℕ) → j < length rows → rowOp t rows j .finish ≤ largestStamp
   stamp-small j l =
-      let m = rw (sym (listed-ops g)) at (map-in (opAt t) (getD-in rows 0 j l)) in
-      g .screened .spans (rowOp t rows j) (from-sorted (rowOp t rows j) m) .1
+      omega (arith, g .screened .spans (rowOp t rows j) (in-history g (getD-in rows 0 j l)) .1, latest-small (rowOp t rows j))
 
   pub made-sound : Sound C
   made-sound = of-sound of (m .chains)
@@ -124,22 +116,22 @@ module _ {t : List ℕ} {register : ℕ} {rows : List ℕ} (g : Listed t registe
         ∙ same-is of w j (omega (arith, rows-long, below-rows)) (omega (arith, rows-long))
         ∙ ap (eqb (wr C j)) (write-of of q .1)
 
-    cluster-rows : keep (sameValue (op H w)) (byStart h) ≡ map (rowOp t rows) (p (length rows))
+    cluster-rows : keep (sameValue (op H w)) (byTime h) ≡ map (rowOp t rows) (p (length rows))
     cluster-rows = ap (keep (sameValue (op H w))) (listed-ops g) ∙ keep-at (opAt t) rows (sameValue (op H w)) (mine (C .writer) w) same
 
     -- its smallest finish and its largest start
     stamps-at : stampsOf h (op H w) ≡ stampsAt t rows (C .writer) w
-    unfolding stampsOf byStart
+    unfolding stampsOf byTime
     stamps-at =
         let k = write-of of q in
         let a : least (λ o. o .finish) largestStamp (keep (sameValue (op H w)) h) ≡ stampsAt t rows (C .writer) w .finish =
-        sym (least-sort (λ o. o .finish) largestStamp (sameValue (op H w)) startsFirst h)
+        sym (least-sort (λ o. o .finish) largestStamp (sameValue (op H w)) beginsFirst h)
         ∙ ap (least (λ o. o .finish) largestStamp) cluster-rows
         ∙ least-map (λ o. o .finish) largestStamp (rowOp t rows) (p (length rows))
         ∙ ap (λ (n : ℕ). least (λ j. rowOp t rows j .finish) largestStamp (p n)) (sym writers-long)
         ∙ least-own (C .writer) w (k .1) (λ j. rowOp t rows j .finish) largestStamp (omega (arith, below-rows, writers-long)) (stamp-small w below-rows) in
         let b : greatest (λ o. o .start) 0 (keep (sameValue (op H w)) h) ≡ stampsAt t rows (C .writer) w .start =
-        sym (greatest-sort (λ o. o .start) 0 (sameValue (op H w)) startsFirst h)
+        sym (greatest-sort (λ o. o .start) 0 (sameValue (op H w)) beginsFirst h)
         ∙ ap (greatest (λ o. o .start) 0) cluster-rows
         ∙ greatest-map (λ o. o .start) 0 (rowOp t rows) (p (length rows))
         ∙ ap (λ (n : ℕ). greatest (λ j. rowOp t rows j .start) 0 (p n)) (sym writers-long)
@@ -149,16 +141,12 @@ module _ {t : List ℕ} {register : ℕ} {rows : List ℕ} (g : Listed t registe
     row-at : getD rows w 0 ≡ op H w .row
     row-at = ap (λ (l : List ℕ). getD l w 0) (prepared-rows g) ∙ getD-map (λ x. x .row) H w 0 nothing (omega (arith, rows-long, below-rows))
 
-    -- the direction by the recorded stamps is that by the ranks
-    ahead : forward (stampsOf h (op H w)) ≡ forward (zoneOf H (op H w))
-    ahead = let k = write-of of q in let o = write-at of w (k .0) (k .1) in sym (compares (g .screened) (history-rows t register) o o)
-
     -- the four numbers
-    numbers-at : numbersAt t rows (C .writer) w ≡ numbersOf h H (op H w)
-    numbers-at =
-        ap (λ (z : Zone). getD rows w 0 ∷ directed (forward z) z) (sym stamps-at)
-        ∙ ap (λ (n : ℕ). n ∷ directed (forward (stampsOf h (op H w))) (stampsOf h (op H w))) row-at
-        ∙ ap (λ (b : Bool). op H w .row ∷ directed b (stampsOf h (op H w))) ahead
+    numbers-at : (late : List ℕ) → Zoned C late → numbersAt t rows (C .finish) (C .writer) late w ≡ numbersOf h H (op H w)
+    numbers-at late z =
+        ap (λ (n : ℕ). n ∷ directed (forward (zoneBy (C .finish) late w)) (stampsAt t rows (C .writer) w)) row-at
+        ∙ ap (λ (y : Zone). op H w .row ∷ directed (forward y) (stampsAt t rows (C .writer) w)) (sym (zone-at of late z q))
+        ∙ ap (λ (y : Zone). op H w .row ∷ directed (forward (zoneOf H (op H w))) y) (sym stamps-at)
 
   module _ (late : List ℕ) (z : Zoned C late) where
     -- as many numbers as four a listed write
@@ -173,10 +161,10 @@ module _ {t : List ℕ} {register : ℕ} {rows : List ℕ} (g : Listed t registe
         ∙ ap (λ (n : ℕ). n * 4) (length-map L (op H))
 
     -- THE NUMBERS of the listed writes are the zone list
-    list-is : flatMap (numbersAt t rows (C .writer)) L ≡ zoneList h
+    list-is : flatMap (numbersAt t rows (C .finish) (C .writer) late) L ≡ zoneList h
     unfolding zoneList
     list-is =
-        flat-map (numbersAt t rows (C .writer)) (numbersOf h H) (op H) L (λ w k. numbers-at w (by-low-in (C .finish) late (C .writer) k))
+        flat-map (numbersAt t rows (C .finish) (C .writer) late) (numbersOf h H) (op H) L (λ w k. numbers-at w (by-low-in (C .finish) late (C .writer) k) late z)
         ∙ ap (flatMap (numbersOf h H)) (by-low of late z)
 
     module _ (n : ℕ) (places : List ℕ) (a : n ≤ length (C .writer)) (room : length places ≡ length rows) (b : take n places ≡ L) where
@@ -213,12 +201,12 @@ module _ {t rows : List ℕ} {C : Cols} (m : Made t rows C) (g : (register : ℕ
       }
 
   -- and where it is not
-  pub fill-full : (old list : List ℕ) → n * 4 ≤ length old → list ≡ written (flatMap (numbersAt t rows (C .writer)) (take n places)) old →
+  pub fill-full : (old list : List ℕ) → n * 4 ≤ length old → list ≡ written (flatMap (numbersAt t rows (C .finish) (C .writer) late) (take n places)) old →
       OfRows t rows n old list
   fill-full old list l q r k =
       record {
         few = omega (arith, fill-few, lent-long k);
         count = counted k m late z n places a room b;
         short = λ s. absurd (omega arith);
-        full = λ f. q ∙ ap (λ (x : List ℕ). written x old) (ap (flatMap (numbersAt t rows (C .writer))) b ∙ list-is k m late z);
+        full = λ f. q ∙ ap (λ (x : List ℕ). written x old) (ap (flatMap (numbersAt t rows (C .finish) (C .writer) late)) b ∙ list-is k m late z);
       }

@@ -1,19 +1,20 @@
 -- THE ZONE LIST SHOWS each write of the register once, with the direction and the ends of its zone (document 02, W-206).
 -- Assumes nothing.
-use Prim.Native.Nat.{ℕ, _+_, _*_, _<_}
-use mathlib.Core.Path.{_≡_, ap, sym, _∙_}
+use Prim.Native.Nat.{ℕ, zero, suc, _+_, _*_, _≤_, _<_}
+use mathlib.Core.Path.{_≡_, refl, ap, sym, _∙_}
 use mathlib.Core.Logic.{_⊎_, inl, inr, _≢_}
-use mathlib.Core.Bool.{Bool}
+use mathlib.Core.Bool.{Bool, true, false}
 use mathlib.Core.List.{List, _∷_, List·Memᴰ as In}
 use native.Mathlib.Omega.{arith}
 use lib.ListN.{length, getD, take, drop}
 use Rattle.lists.specs.Sorts.{sort}
+use Rattle.lists.proofs.Tests.{test}
 use Rattle.lists.proofs.Entries.{flat-long, flat-at, flat-part}
 use Rattle.lists.proofs.Images.{getD-in, in-at, pairs-at}
 use Rattle.lists.proofs.Pairs.{pairs-find}
 use Rattle.lists.proofs.Sorts.{in-sort, sort-in, sort-length, by-key}
 use Rattle.history.specs.declared.Op.{Op}
-use Rattle.history.specs.Table.{isWrite}
+use Rattle.history.specs.Table.{isOpening, isWrite}
 use Rattle.history.specs.Screen.{Screened}
 use Rattle.methods.specs.Prepared.{prepared}
 use Rattle.methods.specs.Place.{writes, writeCount}
@@ -27,8 +28,9 @@ use Rattle.preparation.proofs.Shorten.{prepared-history}
 use Rattle.clusters.proofs.Clusters.{Differ, differ-sym, writes-apart}
 use Rattle.positions.specs.Columns.{nothing}
 use Rattle.zone_list.specs.ZoneList.{stampsOf, directed, numbersOf, zoneList}
-use Rattle.zone_list.specs.Shown.{Shows, Shown}
-use Rattle.zone_list.proofs.Comparing.{anew, in-prepared, prepared-in, compares}
+use Rattle.zone_list.specs.Shown.{ahead, Shows, Shown}
+use Rattle.zone_list.proofs.Comparing.{anew, in-prepared, prepared-in, opening-writes, compares}
+use Rattle.zone_list.proofs.Opening.{lowest, opening-forward}
 use Rattle.zone_list.proofs.Listing.{numbers-long}
 
 -- four numbers a write of the register
@@ -56,10 +58,19 @@ module _ {size : ℕ} {h : List Op} (s : Screened size h) (a : RowsRise h) (old 
   write-in : {w : Op} → In w ws → Write H w
   write-in m = in-writes H (in-sort (lowFirst H) (writes H) m)
 
+  -- the direction by ranks is that by the recorded stamps
+  same-way : (o : Op) → In o h → Write H (anew s a o) → forward (zoneOf H (anew s a o)) ≡ ahead h o
+  unfolding stampsOf isOpening
+  same-way o m k = go (test (isOpening o))
+    where
+      go : (isOpening o ≡ true) ⊎ (isOpening o ≡ false) → forward (zoneOf H (anew s a o)) ≡ ahead h o
+      go (inl e) = opening-forward s a o e k ∙ rw e refl
+      go (inr e) = compares s a k k e ∙ rw e refl
+
   -- the numbers of a prepared write are those of the recorded one
-  same-numbers : (o : Op) → In o h → Write H (anew s a o) → numbersOf h H (anew s a o) ≡ o .row ∷ directed (forward (stampsOf h o)) (stampsOf h o)
+  same-numbers : (o : Op) → In o h → Write H (anew s a o) → numbersOf h H (anew s a o) ≡ o .row ∷ directed (ahead h o) (stampsOf h o)
   unfolding stampsOf
-  same-numbers o m k = ap (λ (b : Bool). o .row ∷ directed b (stampsOf h o)) (compares s a k k)
+  same-numbers o m k = ap (λ (b : Bool). o .row ∷ directed b (stampsOf h o)) (same-way o m k)
 
   part : (i : ℕ) → i < length ws → take 4 (drop (i * 4) list) ≡ numbersOf h H (getD ws i nothing)
   unfolding zoneList
@@ -90,8 +101,25 @@ module _ {size : ℕ} {h : List Op} (s : Screened size h) (a : RowsRise h) (old 
       go x y u (inl l) = omega (arith, u)
       go x y u (inr l) = omega (arith, u)
 
+  -- each write of the register has its place
+  place : (o : Op) → In o h → isWrite o ≡ true → (i : ℕ) × (i < length ws) × (getD ws i nothing ≡ anew s a o)
+  unfolding isWrite isOpening
+  place o m k = in-at nothing (sort-in (lowFirst H) (writes H) (writes-in H (record { mem = prepared-in s a m; write = k })))
+
+  -- two places have zones by low end, of writes of two values
+  apart : (i j : ℕ) → i < j → j < length ws → (low (zoneOf H (getD ws i nothing)) ≤ low (zoneOf H (getD ws j nothing))) × Differ (getD ws i nothing) (getD ws j nothing)
+  apart i j l k = pairs-at nothing (by-key (λ w. low (zoneOf H w)) differ-sym (writes-apart (prepared-history s a))) i j l k
+
+  -- the place of the opening is the first
+  opening-at : (i : ℕ) → i < length ws → isOpening (getD ws i nothing) ≡ true → i ≡ 0
+  opening-at zero l e = refl
+  opening-at (suc i) l e =
+      let d = apart 0 (suc i) (omega arith) l in
+      let v = write-in (getD-in ws nothing 0 (omega arith)) in
+      absurd (omega (arith, d .0, lowest s a v (write-in (getD-in ws nothing (suc i) l)) e (λ q. d .1 (sym q))))
+
   pub shown : Shown h list
-  unfolding isWrite
+  unfolding isWrite isOpening
   shown =
       record {
         each = λ i l.
@@ -100,12 +128,16 @@ module _ {size : ℕ} {h : List Op} (s : Screened size h) (a : RowsRise h) (old 
             let (o, m, q) = in-prepared s a (w .mem) in
             (o, m, sym (ap (λ (x : Op). isWrite x) q) ∙ w .write, shows i b o m q);
         all = λ o m k.
-            let (i, l, q) = in-at nothing (sort-in (lowFirst H) (writes H) (writes-in H (record { mem = prepared-in s a m; write = k }))) in
+            let (i, l, q) = place o m k in
             (i, omega (arith, as-many), shows i l o m q);
         once = λ i j l k q.
             let b : j < length ws = omega (arith, as-many) in
             let c : i < length ws = omega arith in
-            let d = pairs-at nothing (by-key (λ w. low (zoneOf H w)) differ-sym (writes-apart (prepared-history s a))) i j l b in
-            rows-differ (getD ws i nothing) (getD ws j nothing) (write-in (getD-in ws nothing i c) .mem) (write-in (getD-in ws nothing j b) .mem) (d .1)
+            rows-differ (getD ws i nothing) (getD ws j nothing) (write-in (getD-in ws nothing i c) .mem) (write-in (getD-in ws nothing j b) .mem) (apart i j l b .1)
             (sym (row-at i c) ∙ q ∙ row-at j b);
+        first = λ o m k.
+            let (i, l, q) = place o m (opening-writes o k) in
+            let z : i ≡ 0 = opening-at i l (ap (λ (x : Op). isOpening x) q ∙ k) in
+            let n : 0 < length ws = omega (arith, z, l) in
+            row-at 0 n ∙ ap (λ (j : ℕ). getD ws j nothing .row) (sym z) ∙ ap (λ (x : Op). x .row) q;
       }

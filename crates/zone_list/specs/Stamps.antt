@@ -14,6 +14,7 @@ use Rattle.positions.specs.Places.{upto}
 use Rattle.positions.specs.Columns.{readOf}
 use Rattle.writers.specs.Writers.{rowOp}
 use Rattle.columns.specs.Rows.{Listed}
+use Rattle.zones.specs.Zones.{zoneBy}
 use Rattle.zone_list.specs.ZoneList.{directed, zoneList}
 
 -- the smallest finish and the largest start of some positions, begun with those of w
@@ -37,9 +38,9 @@ pub record Timely (t rows finish writer : List ℕ) : Type 0 where
 abbrev pub Writes : List ℕ → List ℕ → Type 0
 Writes writer places = (i : ℕ) → i < length places → (getD places i 0 < length writer) × (getD writer (getD places i 0) 0 ≡ getD places i 0)
 
--- the four numbers of the write at w, by the columns
-abbrev pub numbersAt : List ℕ → List ℕ → List ℕ → ℕ → List ℕ
-numbersAt t rows writer w = let z = stampsAt t rows writer w in getD rows w 0 ∷ directed (forward z) z
+-- the four numbers of the write at w, by the columns: its row, the direction by its zone, and its stamps
+abbrev pub numbersAt : List ℕ → List ℕ → List ℕ → List ℕ → List ℕ → ℕ → List ℕ
+numbersAt t rows finish writer late w = getD rows w 0 ∷ directed (forward (zoneBy finish late w)) (stampsAt t rows writer w)
 
 -- THE CONTRACT of the listing: n writes, and where the list has four places for each, the zone list of h at its front
 pub record Laid (h : List Op) (n : ℕ) (old list : List ℕ) : Type 0 where
@@ -48,6 +49,6 @@ pub record Laid (h : List Op) (n : ℕ) (old list : List ℕ) : Type 0 where
   pub short : length old < n * 4 → list ≡ old
   pub full : n * 4 ≤ length old → list ≡ written (zoneList h) old
 
--- the same of whatever register has these rows by rising start
+-- the same of whatever register has these rows by rising time
 abbrev pub OfRows : List ℕ → List ℕ → ℕ → List ℕ → List ℕ → Type 0
 OfRows t rows n old list = (register : ℕ) → Listed t register rows → Laid (history t register) n old list

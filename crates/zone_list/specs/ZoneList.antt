@@ -20,7 +20,8 @@ use Rattle.methods.specs.Place.{writes}
 use Rattle.methods.specs.Zones.{forward, zoneOf, lowFirst}
 use Rattle.methods.specs.Mark.{Outcome, written}
 
--- the smallest finish of w's cluster and its largest start as they were recorded: the original stamps (02, W-206)
+-- the smallest finish of w's cluster and its largest start as they were recorded: the original stamps (02, W-206); the opening's are 0, and the
+-- largest start of its reads or 0 (02, W-207)
 unfoldable pub stampsOf : List Op → Op → Zone
 stampsOf h w =
     let c = keep (sameValue w) h in

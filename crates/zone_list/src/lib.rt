@@ -10,7 +10,6 @@ ghost use lib.ListN.{length, getD, take};
 ghost use lib.Seq.{sets};
 ghost use Rattle.history.specs.Table.{largestCount, rowCount, rowsOf, history};
 ghost use Rattle.history.specs.Screen.{Screened};
-ghost use Rattle.methods.specs.Zones.{forward};
 ghost use Rattle.methods.specs.Mark.{written};
 ghost use Rattle.ranking.specs.Ranked.{Fit};
 ghost use Rattle.positions.specs.Columns.{Cols, cols, Linked};
@@ -120,19 +119,19 @@ fn put(row: u64, direction: u64, low: u64, high: u64, list: &mut [u64], at: usiz
     list[at + 3] = high;
 }
 
-// Those of the write of a row, with the zone of its cluster.
-fn put_zone(row: u64, z: Zone, list: &mut [u64], at: usize)
+// Those of the write of a row, with the direction of its zone and the recorded stamps of its cluster.
+fn put_zone(row: u64, ahead: bool, z: Zone, list: &mut [u64], at: usize)
     requires { ⌜ at + 4 ≤ length (now list) ⌝ }
-    ensures { λ _. ⌜ now (list .exit) ≡ sets (now (list .entry)) at (row ∷ directed (forward z) z) ⌝ }
+    ensures { λ _. ⌜ now (list .exit) ≡ sets (now (list .entry)) at (row ∷ directed ahead z) ⌝ }
 {
-    if z.forward() {
+    if ahead {
         put(row, FORWARD, z.finish, z.start, list, at);
     } else {
         put(row, BACKWARD, z.start, z.finish, list, at);
     }
 }
 
-// Those of the listed writes, at the front of the list.
+// Those of the listed writes, at the front of the list. The direction goes by rank: the opening's stamps can be equal to a read's.
 fn put_zones(
     table: &[u64],
     rows: &[u64],
@@ -140,15 +139,17 @@ fn put_zones(
     writer: &[u64],
     chain: &[u64],
     prev: &[u64],
+    late: &[u64],
     places: &[u64],
     list: &mut [u64],
 )
     ghost { ℕ → List ℕ }
-    requires { λ N. ⌜ numbersAt (now table) (now rows) (now writer) ≡ N ⌝ }
+    requires { λ N. ⌜ numbersAt (now table) (now rows) (now finish) (now writer) (now late) ≡ N ⌝ }
     requires { λ N. ⌜ Fit (now table) (now rows) ⌝ }
     requires { λ N. ⌜ length (now writer) ≡ length (now rows) ⌝ }
     requires { λ N. ⌜ Linked (now writer) (now chain) (now prev) ⌝ }
     requires { λ N. ⌜ Timely (now table) (now rows) (now finish) (now writer) ⌝ }
+    requires { λ N. ⌜ length (now late) ≡ length (now rows) ⌝ }
     requires { λ N. ⌜ Writes (now writer) (now places) ⌝ }
     requires { λ N. ⌜ length (now places) * 4 ≤ length (now list) ⌝ }
     ensures { λ N _. ⌜ now (list .exit) ≡ written (flatMap N (now (places .entry))) (now (list .entry)) ⌝ }
@@ -156,9 +157,10 @@ fn put_zones(
     let mut i: usize = 0;
     while i < places.len() {
         let w = places[i] as usize;
-        let z = stamps(table, rows, finish, writer, chain, prev, w);
-        put_zone(rows[w], z, list, i * NUMBERS);
+        let at = i * NUMBERS;
         i += 1;
+        let z = stamps(table, rows, finish, writer, chain, prev, w);
+        put_zone(rows[w], finish[w] < late[w], z, list, at);
     }
 }
 
@@ -191,12 +193,22 @@ pub fn fill(
 {
     let m = zones::by_low(start, finish, writer, chain, late, low, places);
     if m * NUMBERS <= list.len() {
-        put_zones(table, rows, finish, writer, chain, prev, &places[..m], list);
+        put_zones(
+            table,
+            rows,
+            finish,
+            writer,
+            chain,
+            prev,
+            late,
+            &places[..m],
+            list,
+        );
     }
     m
 }
 
-// The zone list of a screened register where the list has the places, from its rows by rising start, with slices for what is made on the way;
+// The zone list of a screened register where the list has the places, from its rows by rising time, with slices for what is made on the way;
 // the number of writes.
 fn list_with(
     table: &[u64],
@@ -235,7 +247,7 @@ fn list_with(
     )
 }
 
-// The zone list of a screened register of few rows, from these by rising start.
+// The zone list of a screened register of few rows, from these by rising time.
 fn list_few(table: &[u64], rows: &[u64], list: &mut [u64]) -> usize
     requires { ⌜ ((register : ℕ) × Listed (now table) register (now rows)) ⌝ }
     requires { ⌜ length (now rows) ≤ 32 ⌝ }
@@ -325,7 +337,7 @@ fn list_many(table: &[u64], rows: &[u64], list: &mut [u64]) -> usize
     )
 }
 
-// The zone list of a screened register, from its rows by rising start.
+// The zone list of a screened register, from its rows by rising time.
 fn list_rows(table: &[u64], rows: &[u64], list: &mut [u64]) -> usize
     requires { ⌜ ((register : ℕ) × Listed (now table) register (now rows)) ⌝ }
     requires { ⌜ length (now rows) ≤ largestCount ⌝ }
@@ -348,7 +360,7 @@ pub fn list_gathered(table: &[u64], register: u64, rows: &mut [u64], list: &mut 
     requires { ⌜ now rows ≡ rowsOf (now table) register ⌝ }
     ensures { λ r. ⌜ Laid (history (now (table .entry)) register) r (now (list .entry)) (now (list .exit)) ⌝ }
 {
-    columns::put_by_start(table, rows);
+    columns::put_by_time(table, rows);
     list_rows(table, rows, list)
 }
 

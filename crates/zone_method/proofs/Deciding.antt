@@ -2,31 +2,36 @@
 -- Assumes nothing.
 use Prim.Native.Nat.{ℕ, suc, _+_, _*_, _≤_, _<_}
 use mathlib.Core.Path.{_≡_, refl, ap, sym, _∙_}
-use mathlib.Core.Bool.{Bool, true, false}
+use mathlib.Core.Logic.{_⊎_, inl, inr}
+use mathlib.Core.Bool.{Bool, true, false, cond}
 use mathlib.Core.List.{List, [], _∷_, map, List·Memᴰ as In, List·Memᴰ·head as here, List·Memᴰ·tail as there}
 use native.Mathlib.Omega.{arith}
+use lib.Dec.{ltb}
 use lib.ListN.{length, getD, drop}
 use borrow.Author.Tests.{le-ltb}
 use Rattle.lists.specs.Lists.{from, upTo}
 use Rattle.lists.specs.Sorts.{sort}
+use Rattle.lists.specs.Pairs.{Pairs, nil, cons}
+use Rattle.lists.proofs.Tests.{test}
+use Rattle.lists.proofs.Pairs.{pairs-map}
 use Rattle.lists.proofs.Entries.{flat-long, flat-at}
 use Rattle.lists.proofs.Images.{map-twice}
-use Rattle.lists.proofs.Sorts.{in-sort}
+use Rattle.lists.proofs.Sorts.{in-sort, by-key}
 use Rattle.history.specs.declared.Op.{Op}
-use Rattle.history.specs.Table.{history}
+use Rattle.history.specs.Table.{history, isOpening}
 use Rattle.history.specs.Screen.{Screened}
 use Rattle.methods.specs.declared.Zone.{Zone}
 use Rattle.methods.specs.Prepared.{prepared}
 use Rattle.methods.specs.Place.{writes}
-use Rattle.methods.specs.Zones.{forward, zoneOf, lowFirst, isOne}
+use Rattle.methods.specs.Zones.{low, forward, zoneOf, lowFirst, isOne}
 use Rattle.methods.specs.Mark.{written}
 use Rattle.witnesses.specs.Histories.{Write}
 use Rattle.witnesses.proofs.Parts.{in-writes}
 use Rattle.preparation.specs.Claims.{RowsRise}
 use Rattle.preparation.proofs.Rows.{history-rows}
 use Rattle.preparation.proofs.Shorten.{prepared-history}
-use Rattle.clusters.specs.Pass.{passes}
-use Rattle.clusters.proofs.Pass.{pass-alike}
+use Rattle.clusters.specs.Pass.{reached, passes}
+use Rattle.clusters.proofs.Clusters.{Differ, differ-sym, writes-apart}
 use Rattle.clusters.proofs.One.{pass-decides}
 use Rattle.positions.specs.Columns.{Cols, nothing, op, Of, Says}
 use Rattle.columns.specs.Rows.{Listed}
@@ -36,18 +41,9 @@ use Rattle.zones.proofs.ByLow.{zone-at, by-low, by-low-in}
 use Rattle.zone_list.specs.ZoneList.{stampsOf, directed, numbersOf, zoneList}
 use Rattle.zone_list.specs.Stamps.{OfRows}
 use Rattle.zone_list.proofs.Comparing.{compares}
+use Rattle.zone_list.proofs.Opening.{lowest}
 use Rattle.zone_list.proofs.Listing.{numbers-long}
-use Rattle.zone_method.specs.Deciding.{zoneAt, decides}
-
--- an image of the numbers from i on
-map-from : {A B : Type 0} (d : A) (F : ℕ → B) (f : A → B) (l : List A) (i : ℕ) → ((j : ℕ) → j < length l → F (i + j) ≡ f (getD l j d)) → map F (from i (length l)) ≡ map f l
-unfolding from
-map-from d F f [] i h = refl
-map-from {A} {B} d F f (x ∷ l) i h =
-    let a : i + 0 ≡ i = omega arith in
-    let b : F i ≡ f x = ap F (sym a) ∙ h 0 (omega arith) in
-    ap (λ (y : B). y ∷ map F (from (suc i) (length l))) b
-    ∙ ap (λ (y : List B). f x ∷ y) (map-from d F f l (suc i) (λ j k. let e : suc i + j ≡ i + suc j = omega arith in ap F e ∙ h (suc j) (omega arith)))
+use Rattle.zone_method.specs.Deciding.{finishAt, reachedAt, passesAt, decides}
 
 -- images that agree on a list
 map-alike : {A B : Type 0} (f g : A → B) (l : List A) → ((x : A) → In x l → f x ≡ g x) → map f l ≡ map g l
@@ -55,11 +51,20 @@ map-alike f g [] h = refl
 map-alike {A} {B} f g (x ∷ l) h =
     ap (λ (y : B). y ∷ map f l) (h x (here refl)) ∙ ap (λ (y : List B). g x ∷ y) (map-alike f g l (λ y m. h y (there m)))
 
--- the numbers of a write tell its zone by the recorded stamps
-told : (row : ℕ) (b : Bool) (s : Zone) (list : List ℕ) (i : ℕ) → ((k : ℕ) → k < 4 → getD list (i * 4 + k) 0 ≡ getD (row ∷ directed b s) k 0) → zoneAt list i ≡ s
-unfolding zoneAt
-told row true s list i h = rw (h 1 (omega arith), h 2 (omega arith), h 3 (omega arith)) refl
-told row false s list i h = rw (h 1 (omega arith), h 2 (omega arith), h 3 (omega arith)) refl
+-- the four numbers at a place of the list are those of a write, with the direction and the stamps of its zone
+module _ (list : List ℕ) (i row : ℕ) (z : Zone) where
+  abbrev Has : Bool → Type 0
+  Has b = (k : ℕ) → k < 4 → getD list (i * 4 + k) 0 ≡ getD (row ∷ directed b z) k 0
+
+  has-finish : (b : Bool) → Has b → finishAt list i ≡ z .finish
+  unfolding finishAt
+  has-finish true h = rw (h 1 (omega arith), h 2 (omega arith)) refl
+  has-finish false h = rw (h 1 (omega arith), h 3 (omega arith)) refl
+
+  has-reached : (b : Bool) → Has b → (bound : ℕ) → reachedAt list bound i ≡ cond b (z .start) bound
+  unfolding reachedAt
+  has-reached true h bound = rw (h 1 (omega arith), h 3 (omega arith)) refl
+  has-reached false h bound = rw (h 1 (omega arith)) refl
 
 module _ {size : ℕ} {h : List Op} (s : Screened size h) (a : RowsRise h) where
   abbrev H : List Op
@@ -72,19 +77,48 @@ module _ {size : ℕ} {h : List Op} (s : Screened size h) (a : RowsRise h) where
   write-in : {w : Op} → In w ws → Write H w
   write-in m = in-writes H (in-sort (lowFirst H) (writes H) m)
 
-  -- the pass over the recorded stamps decides
-  stamps-decide : passes 0 (map (stampsOf h) ws) ≡ isOne H
-  stamps-decide =
-      sym (pass-alike (zoneOf H) (stampsOf h) (Write H) (λ v w k l. compares s a k l) 0 0 ws (λ x m. write-in m)
-      (λ x m. le-ltb (zoneOf H x .finish) 0 (omega arith) ∙ sym (le-ltb (stampsOf h x .finish) 0 (omega arith))))
-      ∙ pass-decides (prepared-history s a)
+  -- the opening comes first
+  abbrev Later : Op → Op → Type 0
+  Later w x = isOpening x ≡ false
+
+  opening-first : Pairs Later ws
+  opening-first =
+      pairs-map (by-key (λ w. low (zoneOf H w)) differ-sym (writes-apart (prepared-history s a)))
+      (λ w x m n d. go w x (write-in m) (write-in n) d (test (isOpening x)))
+    where
+      go : (w x : Op) → Write H w → Write H x → (low (zoneOf H w) ≤ low (zoneOf H x)) × Differ w x → (isOpening x ≡ true) ⊎ (isOpening x ≡ false) → isOpening x ≡ false
+      go w x k l d (inl e) = absurd (omega (arith, d .0, lowest s a k l e (λ q. d .1 (sym q))))
+      go w x k l d (inr e) = e
+
+  -- THE PASS OVER THE NUMBERS, which are recorded stamps, goes as the pass over the zones
+  module _ (list : List ℕ) where
+    abbrev Holds : ℕ → Op → Type 0
+    Holds i w = (k : ℕ) → k < 4 → getD list (i * 4 + k) 0 ≡ getD (numbersOf h H w) k 0
+
+    pass-shown : (b c i : ℕ) {l : List Op} → Pairs Later l → ((x : Op) → In x l → Write H x) → ((x : Op) → In x l → ltb (zoneOf H x .finish) b ≡ ltb (stampsOf h x .finish) c) →
+        ((j : ℕ) → j < length l → Holds (i + j) (getD l j nothing)) → passesAt list c (from i (length l)) ≡ passes b (map (zoneOf H) l)
+    unfolding passesAt passes reached from
+    pass-shown b c i nil own alike holds = refl
+    pass-shown b c i (cons {x = w} {l = l} u t) own alike holds =
+        let e : i + 0 ≡ i = omega arith in
+        let n : Holds i w = rw e at (holds 0 (omega arith)) in
+        rw (has-finish list i (w .row) (stampsOf h w) (forward (zoneOf H w)) n, has-reached list i (w .row) (stampsOf h w) (forward (zoneOf H w)) n c, ← alike w (here refl))
+        (ap (λ (d : Bool). cond (ltb (zoneOf H w .finish) b) false d)
+        (go (forward (zoneOf H w)) (λ p q k. pass-shown p q (suc i) t (λ x m. own x (there m)) k (λ j m. let r : i + suc j ≡ suc i + j = omega arith in rw r at (holds (suc j) (omega arith))))))
+      where
+        go : (d : Bool) → ((p q : ℕ) → ((x : Op) → In x l → ltb (zoneOf H x .finish) p ≡ ltb (stampsOf h x .finish) q) → passesAt list q (from (suc i) (length l)) ≡ passes p (map (zoneOf H) l)) →
+            passesAt list (cond d (stampsOf h w .start) c) (from (suc i) (length l)) ≡ passes (cond d (zoneOf H w .start) b) (map (zoneOf H) l)
+        go true ih = ih (zoneOf H w .start) (stampsOf h w .start) (λ x m. compares s a (own x (there m)) (own w (here refl)) (u x m))
+        go false ih = ih b c (λ x m. alike x (there m))
 
   pub list-decides : (old list : List ℕ) (n : ℕ) → list ≡ written (zoneList h) old → length (zoneList h) ≡ n * 4 → decides list n ≡ isOne H
   unfolding decides zoneList
   list-decides old list n e c =
-      ap (λ (k : ℕ). passes 0 (map (zoneAt list) (upTo k))) count
-      ∙ ap (passes 0) (map-from nothing (zoneAt list) (stampsOf h) ws 0 (λ j l. let k : 0 + j ≡ j = omega arith in rw k (told (getD ws j nothing .row) (forward (zoneOf H (getD ws j nothing))) (stampsOf h (getD ws j nothing)) list j (numbers j l))))
-      ∙ stamps-decide
+      ap (λ (k : ℕ). passesAt list 0 (upTo k)) count
+      ∙ pass-shown list 0 0 0 opening-first (λ x m. write-in m)
+      (λ x m. le-ltb (zoneOf H x .finish) 0 (omega arith) ∙ sym (le-ltb (stampsOf h x .finish) 0 (omega arith)))
+      (λ j l. let k : 0 + j ≡ j = omega arith in rw k (numbers j l))
+      ∙ pass-decides (prepared-history s a)
     where
       count : n ≡ length ws
       count = omega (arith, c, flat-long (numbersOf h H) 4 (numbers-long h H) ws)

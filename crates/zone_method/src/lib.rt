@@ -1,6 +1,5 @@
 // Question 1: the zone method, which decides from the zone list in one pass.
 use history::Row;
-use methods::Zone;
 use placing::Search;
 ghost use mathlib.Core.Path.{_≡_};
 ghost use mathlib.Core.Bool.{true};
@@ -9,7 +8,6 @@ ghost use lib.ListN.{length};
 ghost use Rattle.history.specs.Table.{largestCount};
 ghost use Rattle.methods.specs.Zones.{isOne, zones};
 ghost use Rattle.methods.specs.Mark.{untried};
-ghost use Rattle.clusters.specs.Pass.{reached};
 ghost use Rattle.positions.specs.Places.{Once};
 ghost use Rattle.positions.specs.Columns.{Cols, cols, Linked, Sound, Says};
 ghost use Rattle.placing.specs.States.{State, isFree, stateOf, Ready};
@@ -17,7 +15,7 @@ ghost use Rattle.placing.specs.Searched.{Searched};
 ghost use Rattle.columns.specs.Rows.{Listed};
 ghost use Rattle.columns.specs.Made.{Made};
 ghost use Rattle.zones.specs.Zones.{Zoned, byLow};
-ghost use Rattle.zone_method.specs.Deciding.{zoneAt, decides};
+ghost use Rattle.zone_method.specs.Deciding.{finishAt, reachedAt, decides};
 ghost use Rattle.zone_method.specs.Lay.{Whole, Lays};
 
 // The numbers of the zone lists of few rows, of up to 256, and of as many as a table has.
@@ -27,32 +25,35 @@ const SOME_NUMBERS: usize = 1024;
 
 const LARGEST_NUMBERS: usize = 4096;
 
-// The zone of the i-th write of a zone list.
-fn zone_at(list: &[u64], i: usize) -> Zone
+// The smallest finish of the i-th write of a zone list: the low end of a forward zone, the high end of a backward one.
+fn finish_at(list: &[u64], i: usize) -> u64
     requires { ⌜ i * 4 + 4 ≤ length (now list) ⌝ }
-    ensures { λ r. ⌜ r ≡ zoneAt (now (list .entry)) i ⌝ }
+    ensures { λ r. ⌜ r ≡ finishAt (now (list .entry)) i ⌝ }
 {
     let at = i * zone_list::NUMBERS;
     let direction = list[at + 1];
     let low = list[at + 2];
     let high = list[at + 3];
     if direction == zone_list::FORWARD {
-        return Zone {
-            finish: low,
-            start: high,
-        };
-    }
-    Zone {
-        finish: high,
-        start: low,
+        low
+    } else {
+        high
     }
 }
 
-// The largest start of the last forward zone, where `bound` is that of the zones before.
-fn reached(bound: u64, z: Zone) -> u64
-    ensures { λ r. ⌜ r ≡ reached bound z ⌝ }
+// The largest start of the last forward zone up to the i-th, where `bound` is that of the zones before.
+fn reached(list: &[u64], bound: u64, i: usize) -> u64
+    requires { ⌜ i * 4 + 4 ≤ length (now list) ⌝ }
+    ensures { λ r. ⌜ r ≡ reachedAt (now (list .entry)) bound i ⌝ }
 {
-    if z.forward() { z.start } else { bound }
+    let at = i * zone_list::NUMBERS;
+    let direction = list[at + 1];
+    let high = list[at + 3];
+    if direction == zone_list::FORWARD {
+        high
+    } else {
+        bound
+    }
 }
 
 // Whether the register is 1-atomic, from the zone list of its n writes: none finishes below the largest start of the last forward zone before it.
@@ -63,12 +64,12 @@ fn decide(list: &[u64], n: usize) -> bool
     let mut bound: u64 = 0;
     let mut i: usize = 0;
     while i < n {
-        let z = zone_at(list, i);
+        let at = i;
         i += 1;
-        if z.finish < bound {
+        if finish_at(list, at) < bound {
             return false;
         }
-        bound = reached(bound, z);
+        bound = reached(list, bound, at);
     }
     true
 }

@@ -13,7 +13,7 @@ use compare::{histories, library, marking, order, shapes, Marking};
 use crate::tally::Tally;
 
 /// The codes that a call on a file's bytes can give.
-const CODES: [u64; 10] = [0, 2, 3, 5, 7, 8, 9, 12, 16, 17];
+const CODES: [u64; 11] = [0, 2, 3, 5, 7, 8, 9, 12, 16, 17, 20];
 /// The largest register whose orders are all tried.
 const SMALL: usize = 6;
 
@@ -27,6 +27,7 @@ pub struct Counts {
     orders: u64,
     tried: u64,
     ties: Ties,
+    openings: Openings,
 }
 
 /// The marks of registers with equal stamps, and by which stamps these are.
@@ -40,7 +41,9 @@ struct Ties {
 }
 
 impl Ties {
+    /// One mark more; an opening ties with no row.
     fn add(&mut self, rows: &[Row]) {
+        let rows: Vec<Row> = rows.iter().filter(|row| !row.opening()).copied().collect();
         let [starts, finishes] = [|row: &Row| row.start, |row: &Row| row.finish].map(|stamp| rows.iter().map(stamp).collect::<HashSet<_>>());
         let touching = |row: &Row| finishes.contains(&row.start) && row.start != row.finish;
         let met = [starts.len() < rows.len(), finishes.len() < rows.len(), rows.iter().any(touching), rows.iter().any(|row| row.start == row.finish)];
@@ -48,6 +51,41 @@ impl Ties {
         for (count, met) in [&mut self.starts, &mut self.finishes, &mut self.touching, &mut self.no_length].into_iter().zip(met) {
             *count += u64::from(met);
         }
+    }
+
+    /// Whether none of the kinds is rare.
+    fn varied(&self) -> bool {
+        [self.starts, self.finishes, self.touching, self.no_length].iter().all(|&count| 10 * count > self.marks)
+    }
+}
+
+/// The marks of registers with an opening, and of which kinds these are.
+#[derive(Default)]
+struct Openings {
+    marks: u64,
+    tried: u64,
+    read: u64,
+    behind: u64,
+    at_zero: u64,
+    behind_zero: u64,
+}
+
+impl Openings {
+    fn add(&mut self, rows: &[Row]) {
+        let Some(at) = rows.iter().position(Row::opening) else { return };
+        let read = |row: &Row| !row.write() && row.value == rows[at].value;
+        let at_zero = |row: &Row| row.start == 0 && !row.opening();
+        self.marks += 1;
+        self.tried += u64::from(rows.len() <= SMALL);
+        self.read += u64::from(rows.iter().any(read));
+        self.behind += u64::from(at > 0);
+        self.at_zero += u64::from(rows.iter().any(at_zero));
+        self.behind_zero += u64::from(rows[..at].iter().any(at_zero));
+    }
+
+    /// Whether none of the kinds is rare.
+    fn varied(&self) -> bool {
+        [self.tried, self.read, self.behind, self.at_zero, self.behind_zero].iter().all(|&count| 10 * count > self.marks)
     }
 }
 
@@ -76,6 +114,7 @@ impl Call<'_> {
         }
         let rows = rows_of(self.bytes, self.register).expect("a marked register has a sound file");
         counts.ties.add(&rows);
+        counts.openings.add(&rows);
         let k = if self.question == 1 { 1 } else { 2 };
         if plain.code == FRESH {
             counts.orders += 1;
@@ -156,15 +195,19 @@ pub fn compare(calls: u64) -> Counts {
 }
 
 impl Counts {
-    /// Prints the entry's line; whether nothing differs, every code has come, and most marks are of registers with equal stamps, of all kinds.
+    /// Prints the entry's line; whether nothing differs, every code has come, most marks are of registers with equal stamps, of all kinds, and a
+    /// third are of registers with openings, of all kinds.
     pub fn sound(&self) -> bool {
-        let Ties { marks, starts, finishes, touching, no_length } = self.ties;
         let marked = self.tally.came(FRESH) + self.tally.came(STALE);
-        let tied = 2 * marks > marked && [starts, finishes, touching, no_length].iter().all(|&count| 10 * count > marks);
+        let tied = 2 * self.ties.marks > marked && self.ties.varied();
+        let opened = 3 * self.openings.marks > marked && self.openings.varied();
         if !tied {
             println!("valgrist_mark: too few marks of registers with equal stamps");
         }
-        self.tally.sound("valgrist_mark", &CODES) && tied
+        if !opened {
+            println!("valgrist_mark: too few marks of registers with openings");
+        }
+        self.tally.sound("valgrist_mark", &CODES) && tied && opened
     }
 
     /// Prints what the entry's calls were made on, and what the plain side was held to.
@@ -174,5 +217,8 @@ impl Counts {
         let Ties { marks, starts, finishes, touching, no_length } = self.ties;
         println!("equal stamps: marks {marks}; two starts {starts}, two finishes {finishes}");
         println!("equal stamps: a start and another row's finish {touching}, a row of no length {no_length}");
+        let Openings { marks, tried, read, behind, at_zero, behind_zero } = self.openings;
+        println!("openings: marks {marks}, of them held to all orders {tried}; read {read}, behind another row {behind}");
+        println!("openings: with a row that starts at 0 {at_zero}, behind such a row {behind_zero}");
     }
 }

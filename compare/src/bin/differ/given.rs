@@ -3,7 +3,7 @@
 use compare::answer::Answer;
 use compare::codes::FRESH;
 use compare::damage::damage;
-use compare::file::{table_of, MOST_ROWS, WRITE};
+use compare::file::{table_of, MOST_ROWS, OPENING, WRITE};
 use compare::random::Random;
 use compare::table::{registers, COLUMNS};
 use compare::tables::{road, table};
@@ -30,9 +30,10 @@ impl Given {
         self.table.chunks(COLUMNS).filter(|cells| cells[0] == self.register).count()
     }
 
-    /// Those of them that are writes.
+    /// Those of them that are writes or openings.
     pub fn writes(&self) -> usize {
-        self.table.chunks(COLUMNS).filter(|cells| cells.starts_with(&[self.register, u64::from(WRITE)])).count()
+        let write = |cells: &&[u64]| [WRITE, OPENING].iter().any(|&kind| cells.starts_with(&[self.register, u64::from(kind)]));
+        self.table.chunks(COLUMNS).filter(write).count()
     }
 }
 

@@ -1,7 +1,7 @@
 //! The kinds of calls: what each is given, what its result needs, the codes that it can give and list, and the call on both sides.
 
 use compare::answer::{Answer, FIELDS};
-use compare::file::{rows_of, RECORD};
+use compare::file::{rows_of, table_of, OPENING, RECORD};
 use compare::random::Random;
 use compare::table::{registers, COLUMNS};
 use compare::{calls, clock, text, zones};
@@ -17,6 +17,8 @@ pub struct Kind {
     pub codes: &'static [u64],
     /// the codes that the answers in its list can have, where it lists answers
     pub listed: &'static [u64],
+    /// what a call that passes must be given to be counted, where not every call is: a file with records of both lengths, or its table
+    pub counted: &'static [fn(&Given) -> bool],
     pub given: fn(&mut Random) -> Given,
     pub needed: fn(&Given) -> Needed,
     pub library: Call,
@@ -26,13 +28,14 @@ pub struct Kind {
 /// A kind whose call has one name, and one list of arguments, on both sides.
 macro_rules! kind {
     (
-        $name:literal gives $codes:expr, $(lists [$($listed:literal),*],)? from $given:expr, needs $needed:expr;
+        $name:literal gives $codes:expr, $(lists [$($listed:literal),*],)? $(counts $counted:expr,)? from $given:expr, needs $needed:expr;
         |$g:ident, $lent:ident| $call:ident($($argument:expr),*)
     ) => {
         Kind {
             name: $name,
             codes: $codes,
             listed: &[$($($listed),*)?],
+            counted: &[$($counted)?],
             given: $given,
             needed: $needed,
             library: |$g, $lent| library::$call($($argument),*),
@@ -58,23 +61,23 @@ fn printed(text: String) -> Needed {
 
 pub const KINDS: [Kind; 26] = [
     kind!(
-        "marker::mark" gives &[0, 1, 2, 3, 4, 5, 7, 8, 9, 10, 11, 12], from given::of_register, needs |g| Needed::Numbers(g.rows());
+        "marker::mark" gives &[0, 1, 2, 3, 4, 5, 7, 8, 9, 10, 11, 12, 20], from given::of_register, needs |g| Needed::Numbers(g.rows());
         |g, lent| mark(&g.table, g.register, g.question, g.allowance, &mut lent.numbers)
     ),
     kind!(
-        "marks::answer" gives &[0, 1, 2, 3, 4, 5, 7, 8, 9, 11, 12], from given::of_register, needs nothing;
+        "marks::answer" gives &[0, 1, 2, 3, 4, 5, 7, 8, 9, 11, 12, 20], from given::of_register, needs nothing;
         |g, _lent| answer(&g.table, g.register, g.question, g.allowance)
     ),
     kind!(
-        "orders::check" gives &[0, 1, 2, 3, 4, 5, 7, 8, 9, 13, 14, 15], from given::of_order, needs nothing;
+        "orders::check" gives &[0, 1, 2, 3, 4, 5, 7, 8, 9, 13, 14, 15, 20], from given::of_order, needs nothing;
         |g, _lent| check(&g.table, g.register, g.k, &g.list)
     ),
     kind!(
-        "screening::screen" gives &[0, 1, 2, 4, 5, 7, 8, 9], from given::of_register, needs nothing;
+        "screening::screen" gives &[0, 1, 2, 4, 5, 7, 8, 9, 20], from given::of_register, needs nothing;
         |g, _lent| screen(&g.table, g.register)
     ),
     kind!(
-        "files::read" gives OF_FILES, from given::of_file, needs |g| Needed::Numbers(g.bytes.len() / RECORD * COLUMNS);
+        "files::read" gives OF_FILES, counts |g| both_lengths(&g.bytes), from given::of_file, needs |g| Needed::Numbers(read(&g.bytes));
         |g, lent| read(&g.bytes, &mut lent.numbers)
     ),
     kind!(
@@ -86,7 +89,8 @@ pub const KINDS: [Kind; 26] = [
         |g, lent| load(&g.bytes, &mut lent.numbers)
     ),
     kind!(
-        "files::write" gives &[0, 1, 2, 4, 10], from given::of_table, needs |g| Needed::Bytes(g.table.len() / COLUMNS * RECORD);
+        "files::write" gives &[0, 1, 2, 4, 5, 10], counts |g| both_lengths(&file(&g.table)), from given::of_table,
+        needs |g| Needed::Bytes(file(&g.table).len());
         |g, lent| write(&g.table, &mut lent.bytes)
     ),
     kind!(
@@ -138,7 +142,7 @@ pub const KINDS: [Kind; 26] = [
         |g, lent| numbers(&g.bytes, &mut lent.numbers)
     ),
     kind!(
-        "roads::answers" gives &[0, 1, 2, 3, 10], lists [0, 4, 5, 7, 8, 9, 11, 12], from given::of_registers,
+        "roads::answers" gives &[0, 1, 2, 3, 10], lists [0, 4, 5, 7, 8, 9, 11, 12, 20], from given::of_registers,
         needs |g| Needed::Numbers(g.registers.len() * FIELDS);
         |g, lent| answers(&g.table, &g.registers, g.question, g.allowance, &mut lent.numbers)
     ),
@@ -155,7 +159,7 @@ pub const KINDS: [Kind; 26] = [
         |g, _lent| clock_read(&g.bytes)
     ),
     kind!(
-        "zone_list::write" gives &[0, 1, 2, 4, 5, 7, 8, 9, 10], from given::of_register, needs |g| Needed::Numbers(g.writes() * zones::NUMBERS);
+        "zone_list::write" gives &[0, 1, 2, 4, 5, 7, 8, 9, 10, 20], from given::of_register, needs |g| Needed::Numbers(g.writes() * zones::NUMBERS);
         |g, lent| zone_list(&g.table, g.register, &mut lent.numbers)
     ),
     kind!(
@@ -163,6 +167,23 @@ pub const KINDS: [Kind; 26] = [
         |g, lent| zones(&g.bytes, g.register, &mut lent.bytes)
     ),
 ];
+
+/// The numbers of a file's rows; of one that is refused about as many.
+fn read(bytes: &[u8]) -> usize {
+    table_of(bytes).map_or(bytes.len() / RECORD * COLUMNS, |table| table.len())
+}
+
+/// The file of a table; of one that is refused so many bytes as its rows can take.
+fn file(table: &[u64]) -> Vec<u8> {
+    calls::written(table).unwrap_or_else(|_| vec![0; table.len() / COLUMNS * RECORD])
+}
+
+/// Whether a file is sound and has openings and other rows.
+fn both_lengths(bytes: &[u8]) -> bool {
+    let table = table_of(bytes).unwrap_or_default();
+    let openings = table.chunks(COLUMNS).filter(|cells| cells[1] == u64::from(OPENING)).count();
+    (1..table.len() / COLUMNS).contains(&openings)
+}
 
 /// The numbers of the register's rows in a file.
 fn selected(given: &Given) -> usize {

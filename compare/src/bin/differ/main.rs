@@ -1,7 +1,7 @@
 //! Compares the proved library's calls with the plain implementation's, on random input with fixed seeds: sound and malformed tables, sound and
 //! damaged files and logs, right and wrong orders and clock texts, room enough and too little.
-//! `differ [CALLS]`: so many calls of the entry for C, and a fifth of that of every other call. An answer has four fields; the lent lists and
-//! buffers are compared whole, of refused calls too.
+//! `differ [CALLS]`: so many calls of the entry for C, and a fifth of that of every other call; of the reading and of the writing of files a fifth
+//! that pass on files with records of both lengths. An answer has four fields; the lent lists and buffers are compared whole, of refused calls too.
 //! Ends with status 1 where something differs, an order is not accepted, or a code that a call can give or list has not come.
 
 mod entry;
@@ -34,16 +34,17 @@ fn compare_once(kind: &Kind, random: &mut Random, tally: &mut Tally) {
     if expected.code == FRESH {
         tally.list(&theirs.numbers[..given.registers.len() * FIELDS]);
     }
+    tally.counted += u64::from(kind.counted.iter().all(|counts| expected.code == FRESH && counts(&given)));
     tally.add(expected.code, said == expected && ours == theirs, || {
         format!("{} differs: {given:?}\nlent {lent:?}\nlibrary {said:?} {ours:?}\nplain   {expected:?} {theirs:?}", kind.name)
     });
 }
 
-/// So many calls of a kind.
+/// Calls of a kind until so many are counted.
 fn compare(kind: &Kind, calls: u64, seed: u64) -> Tally {
     let mut random = Random::new(seed);
     let mut tally = Tally::default();
-    while tally.calls < calls {
+    while tally.counted < calls {
         compare_once(kind, &mut random, &mut tally);
     }
     tally
@@ -62,6 +63,9 @@ fn main() {
         sound &= tally.sound(kind.name, kind.codes);
     }
     entry.print();
+    for (kind, tally) in KINDS.iter().zip(&tallies).filter(|(kind, _)| !kind.counted.is_empty()) {
+        println!("{}: passed on files with records of both lengths {}", kind.name, tally.counted);
+    }
     for (kind, tally) in KINDS.iter().zip(&tallies) {
         sound &= tally.varied(kind.name, kind.listed);
     }

@@ -1,14 +1,16 @@
 //! The counts of one kind of calls.
 
 use compare::answer::FIELDS;
-use compare::codes::{FRESH, SPENT, STALE};
+use compare::codes::{END, FRESH, SPENT, STALE};
 
 #[derive(Default)]
 pub struct Tally {
     pub calls: u64,
-    codes: [u64; 20],
+    /// those that its kind counts
+    pub counted: u64,
+    codes: [u64; END],
     /// the codes of the answers in lists
-    listed: [u64; 20],
+    listed: [u64; END],
     differences: u64,
 }
 

@@ -23,7 +23,7 @@ fn log(columns: &str, rows: &[Row], stamp: fn(u64) -> String, note: &str) -> Vec
     for row in rows {
         let cell = |name| match name {
             "register" => String::from("7"),
-            "kind" => String::from(if row.write { "w" } else { "r" }),
+            "kind" => String::from(if row.write() { "w" } else { "r" }),
             "value" => row.value.to_string(),
             "start" => stamp(row.start),
             "finish" => stamp(row.finish),

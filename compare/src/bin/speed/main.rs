@@ -12,7 +12,7 @@ use std::hint::black_box;
 use std::time::Duration;
 
 use compare::file::Row;
-use compare::histories::{self, coarsen, file, file_of, scramble, spread};
+use compare::histories::{self, coarsen, file, file_of, opened, scramble, spread};
 use compare::random::Random;
 use compare::{library, mark};
 
@@ -61,7 +61,7 @@ fn sixty(count: usize, random: &mut Random) -> Case {
     Case { bytes: file(&rows), registers: (1..=60).collect() }
 }
 
-const FAMILIES: [(&str, Maker); 13] = [
+const FAMILIES: [(&str, Maker); 14] = [
     ("1 quorum-like", |count, random| one(histories::quorum(count, random))),
     ("2 all concurrent", |count, random| one(histories::concurrent(count, random))),
     (trials::FAIL_LATE, |count, random| one(histories::late_failures(count, random))),
@@ -75,6 +75,7 @@ const FAMILIES: [(&str, Maker); 13] = [
     ("7 as 1, wild", wild),
     ("8a as 1, equal stamps", |count, random| one(ties(count, random))),
     ("8b the same, shuffled", |count, random| shuffled(ties(count, random), random)),
+    ("9 as 1, with an opening", |count, random| one(opened(histories::quorum(count, random)))),
 ];
 
 type Mark = fn(&[u8], u64, u64) -> u64;

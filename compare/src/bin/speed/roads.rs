@@ -6,8 +6,8 @@ use std::time::Duration;
 
 use compare::answer::{Answer, FIELDS};
 use compare::codes::FRESH;
-use compare::file::{table_of, MOST_ROWS};
-use compare::histories::{file, walked, Walk};
+use compare::file::{table_of, Row, MOST_ROWS};
+use compare::histories::{file, opened, walked, Walk};
 use compare::random::Random;
 use compare::table::COLUMNS;
 use compare::{calls, library, ALLOWANCE};
@@ -22,12 +22,12 @@ const MOSTLY_FRESH: Walk = Walk { writes: 3, older: 20, stale: u64::MAX, reach: 
 /// Reads of the first value alone.
 const ONE_WRITE: Walk = Walk { writes: u64::MAX, older: u64::MAX, stale: u64::MAX, reach: 40 };
 
-/// The table of registers 1 to 60, each with its share of the rows, by start.
-fn table(count: u64, walk: Walk, random: &mut Random) -> Vec<u64> {
+/// The table of registers 1 to 60, each with a history of its share of the rows, by start.
+fn table(count: u64, mut history: impl FnMut(usize) -> Vec<Row>) -> Vec<u64> {
     let mut rows = Vec::new();
     for register in 0..REGISTERS {
         let share = count * (register + 1) / REGISTERS - count * register / REGISTERS;
-        rows.extend(walked(share as usize, walk, random).into_iter().map(|row| (register + 1, row)));
+        rows.extend(history(share as usize).into_iter().map(|row| (register + 1, row)));
     }
     rows.sort_by_key(|(_, row)| row.start);
     table_of(&file(&rows)).expect("a whole file")
@@ -39,11 +39,13 @@ fn shuffled(table: &[u64], random: &mut Random) -> Vec<u64> {
     rows.concat()
 }
 
-fn families() -> [(&'static str, Vec<u64>); 3] {
+fn families() -> [(&'static str, Vec<u64>); 4] {
     let mut random = Random::new(7);
-    let by_start = table(MOST_ROWS as u64, MOSTLY_FRESH, &mut random);
+    let by_start = table(MOST_ROWS as u64, |share| walked(share, MOSTLY_FRESH, &mut random));
     let mixed = shuffled(&by_start, &mut random);
-    [("by start", by_start), ("shuffled", mixed), ("a write and its read", table(2 * REGISTERS, ONE_WRITE, &mut random))]
+    let pairs = table(2 * REGISTERS, |share| walked(share, ONE_WRITE, &mut random));
+    let openings = table(MOST_ROWS as u64, |share| opened(walked(share, MOSTLY_FRESH, &mut random)));
+    [("by start", by_start), ("shuffled", mixed), ("a write and its read", pairs), ("by start, with openings", openings)]
 }
 
 type Answers = fn(&[u64], &[u64], u64, u64, &mut [u64]) -> Answer;

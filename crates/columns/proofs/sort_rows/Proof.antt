@@ -3,17 +3,17 @@ use borrow.Author.Needs.{needs}
 use Rattle.columns.proofs.sort_rows.Statement.{statement}
 use Rattle.columns.proofs.sort_rows.Tie as tie
 
-by-start-requires : tie.Need-by-start-requires
-by-start-requires c κs = search needs
+by-time-requires : tie.Need-by-time-requires
+by-time-requires c κs = search needs
 
 same-length : tie.Need-same-length
 same-length c = search needs
 
 returns : tie.Need-returns
-returns c = c .before .by-start .ensures (c .if1 .taken)
+returns c = c .before .by-time .ensures (c .if1 .taken)
 
-sort-starts-requires : tie.Need-sort-starts-requires
-sort-starts-requires c κs = search needs
+sort-times-requires : tie.Need-sort-times-requires
+sort-times-requires c κs = search needs
 
 same-length-2 : tie.Need-same-length-2
 same-length-2 c = search needs
@@ -28,10 +28,10 @@ pub sort-rows-spec : {M : Type 1} → statement M
 sort-rows-spec =
     tie.close
     (tie.spec
-    by-start-requires
+    by-time-requires
     same-length
     returns
-    sort-starts-requires
+    sort-times-requires
     same-length-2
     same-length-3
     returns-2)

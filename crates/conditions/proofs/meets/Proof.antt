@@ -32,14 +32,20 @@ wrong-span-requires c κs = search needs
 enum-told-3 : tie.Need-enum-told-3
 enum-told-3 c = search needs
 
+reopens-requires : tie.Need-reopens-requires
+reopens-requires c κs = c .before .before .before .before .before .before .before .pre .0 .within
+
+enum-told-4 : tie.Need-enum-told-4
+enum-told-4 c = search needs
+
 entry-requires : tie.Need-entry-requires
 entry-requires c κs = search needs
 
 twin-requires : tie.Need-twin-requires
 twin-requires c κs = search needs
 
-enum-told-4 : tie.Need-enum-told-4
-enum-told-4 c = search needs
+enum-told-5 : tie.Need-enum-told-5
+enum-told-5 c = search needs
 
 entry-requires-2 : tie.Need-entry-requires-2
 entry-requires-2 c κs = search needs
@@ -47,8 +53,8 @@ entry-requires-2 c κs = search needs
 orphan-requires : tie.Need-orphan-requires
 orphan-requires c κs = search needs
 
-enum-told-5 : tie.Need-enum-told-5
-enum-told-5 c = search needs
+enum-told-6 : tie.Need-enum-told-6
+enum-told-6 c = search needs
 
 entry-requires-3 : tie.Need-entry-requires-3
 entry-requires-3 c κs = search needs
@@ -66,15 +72,19 @@ returns-2 c = rw (c .before .enum-told2 .given .1) (c .wrong-span .ensures ∙ r
 
 returns-3 : tie.Need-returns-3
 unfolding shows
-returns-3 c = rw (c .before .before .enum-told3 .given .1) (c .twin .ensures ∙ rw (c .before .before .before .before .at .ensures, c .before .entry .ensures))
+returns-3 c = rw (c .before .enum-told3 .given .1) (c .reopens .ensures ∙ rw (c .before .before .before .at .ensures))
 
 returns-4 : tie.Need-returns-4
 unfolding shows
-returns-4 c = rw (c .before .before .enum-told4 .given .1) (c .orphan .ensures ∙ rw (c .before .before .before .before .at .ensures, c .before .entry2 .ensures))
+returns-4 c = rw (c .before .before .enum-told4 .given .1) (c .twin .ensures ∙ rw (c .before .before .before .before .at .ensures, c .before .entry .ensures))
 
 returns-5 : tie.Need-returns-5
 unfolding shows
-returns-5 c = rw (c .before .before .enum-told5 .given .1) (c .early .ensures ∙ rw (c .before .before .before .before .at .ensures, c .before .entry3 .ensures))
+returns-5 c = rw (c .before .before .enum-told5 .given .1) (c .orphan .ensures ∙ rw (c .before .before .before .before .at .ensures, c .before .entry2 .ensures))
+
+returns-6 : tie.Need-returns-6
+unfolding shows
+returns-6 c = rw (c .before .before .enum-told6 .given .1) (c .early .ensures ∙ rw (c .before .before .before .before .at .ensures, c .before .entry3 .ensures))
 
 pub meets-spec : {M : Type 1} → statement M
 meets-spec =
@@ -88,16 +98,19 @@ meets-spec =
     enum-told-2
     wrong-span-requires
     enum-told-3
+    reopens-requires
+    enum-told-4
     entry-requires
     twin-requires
-    enum-told-4
+    enum-told-5
     entry-requires-2
     orphan-requires
-    enum-told-5
+    enum-told-6
     entry-requires-3
     early-requires
     returns
     returns-2
     returns-3
     returns-4
-    returns-5)
+    returns-5
+    returns-6)

@@ -5,7 +5,10 @@ use borrow.Author.Tests.{leb-true, not-true}
 use Prim.Native.Nat.{ℕ}
 use Rattle.lists.proofs.Tests.{both}
 use Rattle.lists.proofs.Images.{getD-in}
-use Rattle.history.specs.Table.{isWrite, precedes}
+use mathlib.Core.Bool.{_&&_}
+use lib.Dec.{ltb}
+use Rattle.history.specs.Table.{isOpening, isWrite, precedes}
+use Rattle.conditions.specs.Tests.{firstOpening}
 use Rattle.history.specs.Screen.{wrongKind, wrongSpan}
 use Rattle.writers.specs.Writers.{rowOp}
 use Rattle.conditions.proofs.Shows.{quiet-write, quiet-other}
@@ -36,18 +39,25 @@ wrong-span-requires c κs = search needs
 returns-2 : tie.Need-returns-2
 returns-2 c = λ q. absurd (both q refl)
 
+reopens-requires : tie.Need-reopens-requires
+reopens-requires c κs = c .before .before .before .before .before .before .before .before .before .pre .0 .within
+
+returns-3 : tie.Need-returns-3
+returns-3 c = λ q. absurd (both q refl)
+
 entry-requires : tie.Need-entry-requires
 entry-requires c κs = search needs
 
 is-write-requires : tie.Need-is-write-requires
 is-write-requires c κs = search needs
 
-returns-3 : tie.Need-returns-3
-returns-3 c = λ q.
-    let a = c .before .before .before .before .before .before .before .before .before .before .before .before .args in
+returns-4 : tie.Need-returns-4
+returns-4 c = λ q.
+    let a = c .before .before .before .before .before .before .before .before .before .before .before .before .before .before .args in
     let l = leb-true (a .i) (c .before .before .entry .result) q in
-    quiet-write (a .table .now) (a .rows .now) (a .writer .now) (a .i) (ap wrongKind (sym (c .before .before .before .before .before .before .before .at .ensures)) ∙ sym (c .before .before .before .before .before .before .wrong-kind .ensures) ∙ c .before .before .before .before .before .if1 .left) (ap wrongSpan (sym (c .before .before .before .before .before .before .before .at .ensures)) ∙ sym (c .before .before .before .before .wrong-span .ensures) ∙ c .before .before .before .if2 .left)
-    (ap isWrite (sym (c .before .before .before .before .before .before .before .at .ensures)) ∙ sym (c .before .is-write .ensures) ∙ c .if3 .taken) (omega (arith, c .before .before .entry .ensures))
+    quiet-write (a .table .now) (a .rows .now) (a .writer .now) (a .i) (ap wrongKind (sym (c .before .before .before .before .before .before .before .before .before .at .ensures)) ∙ sym (c .before .before .before .before .before .before .before .before .wrong-kind .ensures) ∙ c .before .before .before .before .before .before .before .if1 .left) (ap wrongSpan (sym (c .before .before .before .before .before .before .before .before .before .at .ensures)) ∙ sym (c .before .before .before .before .before .before .wrong-span .ensures) ∙ c .before .before .before .before .before .if2 .left)
+    (ap (λ o. isOpening o && ltb (firstOpening (a .table .now) (a .rows .now)) (a .i)) (sym (c .before .before .before .before .before .before .before .before .before .at .ensures)) ∙ sym (c .before .before .before .before .reopens .ensures) ∙ c .before .before .before .if3 .left)
+    (ap isWrite (sym (c .before .before .before .before .before .before .before .before .before .at .ensures)) ∙ sym (c .before .is-write .ensures) ∙ c .if4 .taken) (omega (arith, c .before .before .entry .ensures))
 
 mul-at-2 : tie.Need-mul-at-2
 mul-at-2 c = search needs
@@ -57,21 +67,22 @@ shared-slice-read-at-2 c = search needs
 
 at-requires-2 : tie.Need-at-requires-2
 at-requires-2 c κs =
-    let a = c .before .before .before .before .before .before .before .before .before .before .before .before .before .before in
+    let a = c .before .before .before .before .before .before .before .before .before .before .before .before .before .before .before .before in
     a .pre .0 .within _ (getD-in (a .args .rows .now) 0 (c .before .before .before .before .entry .result) (omega arith))
 
 precedes-requires : tie.Need-precedes-requires
 precedes-requires c κs = search needs
 
-returns-4 : tie.Need-returns-4
-returns-4 c = λ q.
-    let a = c .before .before .before .before .before .before .before .before .before .before .before .before .before .before .before .before .args in
-    quiet-other (a .table .now) (a .rows .now) (a .writer .now) (a .i) (ap wrongKind (sym (c .before .before .before .before .before .before .before .before .before .before .before .at .ensures)) ∙ sym (c .before .before .before .before .before .before .before .before .before .before .wrong-kind .ensures) ∙ c .before .before .before .before .before .before .before .before .before .if1 .left) (ap wrongSpan (sym (c .before .before .before .before .before .before .before .before .before .before .before .at .ensures)) ∙ sym (c .before .before .before .before .before .before .before .before .wrong-span .ensures) ∙ c .before .before .before .before .before .before .before .if2 .left)
-    (ap isWrite (sym (c .before .before .before .before .before .before .before .before .before .before .before .at .ensures)) ∙ sym (c .before .before .before .before .before .is-write .ensures) ∙ c .before .before .before .before .if3 .left) (omega (arith, c .before .before .before .before .before .before .entry .ensures))
-    (ap₂ precedes (sym (c .before .before .before .before .before .before .before .before .before .before .before .at .ensures)) (ap (λ (w : ℕ). rowOp (a .table .now) (a .rows .now) w) (sym (c .before .before .before .before .before .before .entry .ensures)) ∙ sym (c .before .at2 .ensures)) ∙ sym (c .precedes .ensures) ∙ not-true _ q)
-
 returns-5 : tie.Need-returns-5
-returns-5 c = λ q. absurd (both q refl)
+returns-5 c = λ q.
+    let a = c .before .before .before .before .before .before .before .before .before .before .before .before .before .before .before .before .before .before .args in
+    quiet-other (a .table .now) (a .rows .now) (a .writer .now) (a .i) (ap wrongKind (sym (c .before .before .before .before .before .before .before .before .before .before .before .before .before .at .ensures)) ∙ sym (c .before .before .before .before .before .before .before .before .before .before .before .before .wrong-kind .ensures) ∙ c .before .before .before .before .before .before .before .before .before .before .before .if1 .left) (ap wrongSpan (sym (c .before .before .before .before .before .before .before .before .before .before .before .before .before .at .ensures)) ∙ sym (c .before .before .before .before .before .before .before .before .before .before .wrong-span .ensures) ∙ c .before .before .before .before .before .before .before .before .before .if2 .left)
+    (ap (λ o. isOpening o && ltb (firstOpening (a .table .now) (a .rows .now)) (a .i)) (sym (c .before .before .before .before .before .before .before .before .before .before .before .before .before .at .ensures)) ∙ sym (c .before .before .before .before .before .before .before .before .reopens .ensures) ∙ c .before .before .before .before .before .before .before .if3 .left)
+    (ap isWrite (sym (c .before .before .before .before .before .before .before .before .before .before .before .before .before .at .ensures)) ∙ sym (c .before .before .before .before .before .is-write .ensures) ∙ c .before .before .before .before .if4 .left) (omega (arith, c .before .before .before .before .before .before .entry .ensures))
+    (ap₂ precedes (sym (c .before .before .before .before .before .before .before .before .before .before .before .before .before .at .ensures)) (ap (λ (w : ℕ). rowOp (a .table .now) (a .rows .now) w) (sym (c .before .before .before .before .before .before .entry .ensures)) ∙ sym (c .before .at2 .ensures)) ∙ sym (c .precedes .ensures) ∙ not-true _ q)
+
+returns-6 : tie.Need-returns-6
+returns-6 c = λ q. absurd (both q refl)
 
 pub quiet-spec : {M : Type 1} → statement M
 quiet-spec =
@@ -84,12 +95,14 @@ quiet-spec =
     returns
     wrong-span-requires
     returns-2
+    reopens-requires
+    returns-3
     entry-requires
     is-write-requires
-    returns-3
+    returns-4
     mul-at-2
     shared-slice-read-at-2
     at-requires-2
     precedes-requires
-    returns-4
-    returns-5)
+    returns-5
+    returns-6)

@@ -1,4 +1,4 @@
--- A register without a condition passes (`rows-quiet`); else the five tests are a chain, which gives what the definitions give (`rows-examined`).
+-- A register without a condition passes (`rows-quiet`); else the six tests are a chain, which gives what the definitions give (`rows-examined`).
 use mathlib.Core.Path.{_∙_}
 use Rattle.conditions.proofs.Chain.{rows-examined, rows-quiet}
 use borrow.Author.Needs.{needs}
@@ -31,12 +31,15 @@ or-test-requires-4 c κs = c .before .before .before .before .before .before .be
 or-test-requires-5 : tie.Need-or-test-requires-5
 or-test-requires-5 c κs = c .before .before .before .before .before .before .before .before .before .before .pre .0
 
+or-test-requires-6 : tie.Need-or-test-requires-6
+or-test-requires-6 c κs = c .before .before .before .before .before .before .before .before .before .before .before .pre .0
+
 returns-2 : tie.Need-returns-2
 returns-2 c =
-    let start = c .before .before .before .before .before .before .before .before .before .before .before in
+    let start = c .before .before .before .before .before .before .before .before .before .before .before .before in
     let p = start .pre in
-    rw (c .or-test5 .ensures, c .before .or-test4 .ensures, c .before .before .or-test3 .ensures, c .before .before .before .or-test2 .ensures, c .before .before .before .before .or-test .ensures, c .before .before .before .before .before .before .before .passed .ensures)
-    (rows-examined _ _ _ (p .0) (p .1) (start .args .rows .now) (start .args .rows .now))
+    rw (c .or-test6 .ensures, c .before .or-test5 .ensures, c .before .before .or-test4 .ensures, c .before .before .before .or-test3 .ensures, c .before .before .before .before .or-test2 .ensures, c .before .before .before .before .before .or-test .ensures, c .before .before .before .before .before .before .before .before .passed .ensures)
+    (rows-examined _ _ _ (p .0) (p .1) (start .args .rows .now))
 
 pub test-rows-spec : {M : Type 1} → statement M
 test-rows-spec =
@@ -50,4 +53,5 @@ test-rows-spec =
     or-test-requires-3
     or-test-requires-4
     or-test-requires-5
+    or-test-requires-6
     returns-2)

@@ -1,11 +1,11 @@
--- The first two tests return at once; what the third finds is refused, else the test of the room answers.
+-- The first two tests return at once; what the third finds is refused, else the last tests answer.
 use Prim.Native.Nat.{_/_, _%_}
 use lib.ListN.{length}
 use borrow.Author.Tests.{eq-eqb, ne-eqb, lt-ltb, le-ltb}
-use borrow.Author.Needs.{needs}
 use Rattle.history.specs.Table.{largestCount}
 use Rattle.history.specs.Answer.{firstMet}
 use Rattle.files.specs.Files.{writeTests}
+use borrow.Author.Needs.{needs}
 use Rattle.files.proofs.examine.Statement.{statement}
 use Rattle.files.proofs.examine.Tie as tie
 
@@ -39,11 +39,8 @@ refused-requires-3 c κs = search needs
 enum-told : tie.Need-enum-told
 enum-told c = search needs
 
-mul-room-for : tie.Need-mul-room-for
-mul-room-for c = search needs
-
-room-for-requires : tie.Need-room-for-requires
-room-for-requires c κs = search needs
+examine-stamps-requires : tie.Need-examine-stamps-requires
+examine-stamps-requires c κs = search needs
 
 returns-3 : tie.Need-returns-3
 unfolding firstMet writeTests
@@ -55,7 +52,7 @@ returns-4 : tie.Need-returns-4
 unfolding firstMet writeTests
 returns-4 c =
     let size = length (c .before .before .before .before .before .before .before .args .table .now) in
-    rw (eq-eqb (size % 5) 0 (c .before .before .before .before .before .if1 .left), le-ltb largestCount (size / 5) (c .before .before .before .before .if2 .left), ← c .before .before .before .lowest-wrong .ensures, c .before .enum-told .given .1) (c .room-for .ensures)
+    rw (eq-eqb (size % 5) 0 (c .before .before .before .before .before .if1 .left), le-ltb largestCount (size / 5) (c .before .before .before .before .if2 .left), ← c .before .before .before .lowest-wrong .ensures, c .before .enum-told .given .1) (c .examine-stamps .ensures)
 
 pub examine-spec : {M : Type 1} → statement M
 examine-spec =
@@ -69,7 +66,6 @@ examine-spec =
     enum-known-row
     refused-requires-3
     enum-told
-    mul-room-for
-    room-for-requires
+    examine-stamps-requires
     returns-3
     returns-4)

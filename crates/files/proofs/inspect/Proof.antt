@@ -1,64 +1,47 @@
--- The loop inspects the records in sequence: the answer of the whole is the answer from here on (`Scan`).
-use Prim.Native.Nat.{ℕ, _-_}
-use mathlib.Core.Path.{sym, ap, _∙_, refl}
-use mathlib.Core.List.{flatMap}
+-- The loop inspects the records in sequence: the answer of the whole is the answer from here on (`Inspecting`).
+use Prim.Native.Nat.{_+_, _-_}
+use mathlib.Core.Path.{_∙_}
 use native.Mathlib.Omega.{arith}
+use lib.ListN.{length}
 use borrow.Author.Needs.{needs}
-use Rattle.lists.specs.Lists.{upTo}
-use Rattle.lists.proofs.Scans.{Scan, scan-none, scan-hit, scan-more, scan-end}
-use Rattle.history.specs.declared.Answer.{Answer}
-use Rattle.history.specs.Answer.{firstMet, passed}
-use Rattle.records.specs.Records.{begun}
-use Rattle.files.specs.Files.{recordTests, fileTests}
-use Rattle.files.proofs.Meeting.{met-stop, met-on}
-use Rattle.files.proofs.Passing.{record-coded}
+use Rattle.records.specs.Records.{field}
+use Rattle.records.proofs.Records.{least-length}
+use Rattle.files.proofs.Walking.{Inspecting, inspect-none, inspect-hit, inspect-passes, inspect-more, inspect-end}
 use Rattle.files.proofs.inspect.Statement.{statement}
 use Rattle.files.proofs.inspect.Tie as tie
 
 abbrev Inv-loop : tie.InvT-loop
-Inv-loop bytes n i₀ i = Scan (firstMet (fileTests bytes) (passed (begun bytes))) (λ xs. firstMet (flatMap (recordTests bytes) xs) (passed n)) n i
+Inv-loop bytes i₀ at₀ i at = Inspecting bytes i at
 
 abbrev μ-loop : tie.MeasureT-loop
-μ-loop bytes n i₀ i = n - i
-
-begun-requires : tie.Need-begun-requires Inv-loop μ-loop
-begun-requires c κs = search needs
+μ-loop bytes i₀ at₀ i at = length bytes - at
 
 loop-holds : tie.Need-loop-holds Inv-loop μ-loop
-unfolding fileTests
-loop-holds c =
-    let bs = c .before .before .args .bytes .now in
-    scan-none _ _ (ap (λ (k : ℕ). firstMet (flatMap (recordTests bs) (upTo k)) (passed k)) (sym (c .begun .ensures)))
+loop-holds c = inspect-none _
 
 inspect-record-requires : tie.Need-inspect-record-requires Inv-loop μ-loop
-inspect-record-requires c κs = omega (arith, c .before .before .begun .ensures)
+inspect-record-requires c κs = omega arith
 
 returns : tie.Need-returns Inv-loop μ-loop
-unfolding flatMap
-returns c =
-    let bs = c .before .before .before .before .before .before .before .args .bytes .now in
-    let e = c .before .before .inspect-record .ensures in
-    sym (scan-hit _ _ _ _ (omega arith) (c .before .before .before .before .loop .inv) (λ r. met-stop (recordTests bs (c .before .before .before .before .loop .i)) (flatMap (recordTests bs) r) _ refl (λ z. c .if1 .taken (ap (λ (a : Answer). a .code) e ∙ z)) ∙ sym e))
+returns c = inspect-hit _ _ _ (c .before .before .before .before .loop .inv) (omega arith) _ (c .before .before .inspect-record .ensures) (c .if1 .taken)
+
+next-requires : tie.Need-next-requires Inv-loop μ-loop
+next-requires c κs = let p = inspect-passes _ _ _ (c .before .before .before .before .loop .inv) (omega arith) _ (c .before .before .inspect-record .ensures) (c .if1 .left) in omega (arith, p .stands .whole, least-length (field (c .before .before .before .before .before .before .args .bytes .now) (c .before .before .before .before .loop .at + 2) 2))
 
 add-i : tie.Need-add-i Inv-loop μ-loop
-add-i c = omega arith
+add-i c = omega (arith, c .before .before .before .before .before .loop .inv .few)
 
 loop-less : tie.Need-loop-less Inv-loop μ-loop
-loop-less c = omega arith
+loop-less c = let p = inspect-passes _ _ _ (c .before .before .before .before .before .loop .inv) (omega arith) _ (c .before .before .before .inspect-record .ensures) (c .before .if1 .left) in omega (arith, c .next .ensures)
 
 loop-again : tie.Need-loop-again Inv-loop μ-loop
-unfolding flatMap
-loop-again c =
-    let bs = c .before .before .before .before .before .before .before .args .bytes .now in
-    scan-more _ _ _ _ (omega arith) (c .before .before .before .before .loop .inv)
-    (λ r. met-on (recordTests bs (c .before .before .before .before .loop .i)) (flatMap (recordTests bs) r) _ (record-coded bs (c .before .before .before .before .loop .i)) (sym (ap (λ (a : Answer). a .code) (c .before .before .inspect-record .ensures)) ∙ c .if1 .left))
+loop-again c = rw (c .next .ensures) (inspect-more _ _ _ (c .before .before .before .before .before .loop .inv) (omega arith) _ (c .before .before .before .inspect-record .ensures) (c .before .if1 .left))
 
 passed-requires : tie.Need-passed-requires Inv-loop μ-loop
 passed-requires c κs = search needs
 
 returns-2 : tie.Need-returns-2 Inv-loop μ-loop
-unfolding flatMap firstMet
-returns-2 c = c .passed .ensures ∙ sym (scan-end _ _ _ (omega arith) (c .before .before .loop .inv))
+returns-2 c = c .passed .ensures ∙ inspect-end _ _ _ (c .before .before .loop .inv) (omega arith)
 
 pub inspect-spec : {M : Type 1} → statement M
 inspect-spec =
@@ -66,10 +49,10 @@ inspect-spec =
     (tie.spec
     Inv-loop
     μ-loop
-    begun-requires
     loop-holds
     inspect-record-requires
     returns
+    next-requires
     add-i
     loop-less
     loop-again

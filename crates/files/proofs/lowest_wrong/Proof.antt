@@ -10,7 +10,7 @@ use Rattle.history.specs.Table.{opAt}
 use Rattle.history.specs.Answer.{lowestRow}
 use Rattle.history.specs.Screen.{wrongKind}
 use Rattle.files.specs.Files.{opsOf}
-use Rattle.files.proofs.Passing.{row-hit, row-miss}
+use Rattle.files.proofs.Passing.{row-hit, row-miss, row-kind}
 use Rattle.files.proofs.lowest_wrong.Statement.{statement}
 use Rattle.files.proofs.lowest_wrong.Tie as tie
 
@@ -40,7 +40,7 @@ wrong-kind-requires : tie.Need-wrong-kind-requires Inv-loop μ-loop
 wrong-kind-requires c κs = search needs
 
 returns : tie.Need-returns Inv-loop μ-loop
-returns c = sym (scan-hit _ _ _ _ (omega arith) (c .before .before .before .before .loop .inv) (λ r. row-hit (c .before .before .before .before .before .before .args .table .now) (c .before .before .before .before .loop .i) r (sym (c .before .wrong-kind .ensures) ∙ c .if1 .taken)))
+returns c = sym (scan-hit _ _ _ _ (omega arith) (c .before .before .before .before .loop .inv) (λ r. row-hit wrongKind (c .before .before .before .before .before .before .args .table .now) (c .before .before .before .before .loop .i) r (sym (row-kind (c .before .before .before .before .before .before .args .table .now) (c .before .before .before .before .loop .i)) ∙ sym (c .before .wrong-kind .ensures) ∙ c .if1 .taken)))
 
 add-i : tie.Need-add-i Inv-loop μ-loop
 add-i c = omega arith
@@ -49,7 +49,7 @@ loop-less : tie.Need-loop-less Inv-loop μ-loop
 loop-less c = omega arith
 
 loop-again : tie.Need-loop-again Inv-loop μ-loop
-loop-again c = scan-more _ _ _ _ (omega arith) (c .before .before .before .before .loop .inv) (λ r. row-miss (c .before .before .before .before .before .before .args .table .now) (c .before .before .before .before .loop .i) r (sym (c .before .wrong-kind .ensures) ∙ c .if1 .left))
+loop-again c = scan-more _ _ _ _ (omega arith) (c .before .before .before .before .loop .inv) (λ r. row-miss wrongKind (c .before .before .before .before .before .before .args .table .now) (c .before .before .before .before .loop .i) r (sym (row-kind (c .before .before .before .before .before .before .args .table .now) (c .before .before .before .before .loop .i)) ∙ sym (c .before .wrong-kind .ensures) ∙ c .if1 .left))
 
 returns-2 : tie.Need-returns-2 Inv-loop μ-loop
 unfolding first

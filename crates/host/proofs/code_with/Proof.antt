@@ -1,58 +1,44 @@
--- The file is refused or the table too short, or the register's rows alone are marked (`compact-code`).
-use native.Mathlib.Omega.{arith}
-use Rattle.selection.proofs.Loaded.{loaded-small, loaded-front, loaded-long, loaded-in}
-use Rattle.host.proofs.Entry.{entry-refused, entry-marked}
+-- The table has the register's rows alone at its front, and their code is that of the whole file's table (`compact-code`).
+use Rattle.selection.proofs.Selecting.{placed-stand}
+use Rattle.selection.proofs.Loaded.{loaded-front, loaded-long}
+use Rattle.host.proofs.Entry.{entry-marked}
 use borrow.Author.Needs.{needs}
 use Rattle.host.proofs.code_with.Statement.{statement}
 use Rattle.host.proofs.code_with.Tie as tie
 
-read-requires : tie.Need-read-requires
-read-requires c κs = search needs
+copy-requires : tie.Need-copy-requires
+copy-requires c κs =
+    let p = c .before .before .before .before .pre in
+    (placed-stand _ _ _ (p .0), p .1)
+
+mul-n : tie.Need-mul-n
+mul-n c = search needs
+
+slice-reshare-prefix-answer : tie.Need-slice-reshare-prefix-answer
+slice-reshare-prefix-answer c = search needs
+
+slice-aggregate-answer : tie.Need-slice-aggregate-answer
+slice-aggregate-answer c = loaded-long _ _ _ (c .before .before .before .before .before .before .before .before .pre .0) _ _ (c .before .before .before .copy .ensures)
+
+answer-requires : tie.Need-answer-requires
+answer-requires c κs = search needs
 
 same-length : tie.Need-same-length
 same-length c = search needs
 
 returns : tie.Need-returns
 returns c =
-    let a = c .before .before .before .before .before .before .before .before .args in
-    entry-refused _ _ (a .register) (a .question) _ (c .before .before .before .before .read .ensures .0) (c .if1 .taken)
-
-mul-n : tie.Need-mul-n
-mul-n c =
-    omega (arith, loaded-small _ _ _ _ (c .before .before .before .before .read .ensures .0) (omega arith))
-
-slice-reshare-prefix-answer : tie.Need-slice-reshare-prefix-answer
-slice-reshare-prefix-answer c =
-    let o = c .before .before .before .before .read .ensures in
-    loaded-in _ _ _ _ (o .0) (omega arith) _ (o .1)
-
-slice-aggregate-answer : tie.Need-slice-aggregate-answer
-slice-aggregate-answer c =
-    let o = c .before .before .before .before .before .read .ensures in
-    loaded-long _ _ _ _ (o .0) (omega arith) _ (o .1)
-
-answer-requires : tie.Need-answer-requires
-answer-requires c κs = search needs
-
-same-length-2 : tie.Need-same-length-2
-same-length-2 c = search needs
-
-returns-2 : tie.Need-returns-2
-returns-2 c =
-    let a = c .before .before .before .before .before .before .before .before .before .before .args in
-    let o = c .before .before .before .before .before .before .read .ensures in
-    entry-marked _ _ (a .register) (a .question) _ (o .0) (omega arith) _ _ (loaded-front _ _ _ _ (o .0) (omega arith) _ (o .1)) (c .answer .ensures .0)
+    let p = c .before .before .before .before .before .before .before .before .before .pre .0 in
+    entry-marked _ _ _ (p .whole) _ (loaded-front _ _ _ p _ _ (c .before .before .before .before .copy .ensures)) _ (c .answer .ensures .0)
 
 pub code-with-spec : {M : Type 1} → statement M
 code-with-spec =
     tie.close
     (tie.spec
-    read-requires
-    same-length
-    returns
+    copy-requires
     mul-n
     slice-reshare-prefix-answer
     slice-aggregate-answer
     answer-requires
-    same-length-2
-    returns-2)
+    same-length
+    returns)

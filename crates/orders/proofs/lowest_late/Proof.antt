@@ -1,10 +1,8 @@
--- The loop looks at the positions in sequence (`Scan`), with the largest start so far (`Latest`).
-use Rattle.history.specs.declared.Op.{Op}
+-- The loop looks at the positions in sequence (`Scan`), with what is kept of those before (`Latest`).
 use Prim.Native.Nat.{_-_}
-use mathlib.Core.Path.{refl, sym, ap, _∙_}
+use mathlib.Core.Path.{refl, sym, _∙_}
 use native.Mathlib.Omega.{arith}
 use borrow.Author.Needs.{needs}
-use borrow.Author.Tests.{lt-ltb, le-ltb}
 use lib.ListN.{length}
 use Rattle.lists.specs.Lists.{first}
 use Rattle.lists.proofs.Scans.{Scan, scan-none, scan-hit, scan-more, scan-end}
@@ -15,10 +13,10 @@ use Rattle.orders.proofs.lowest_late.Statement.{statement}
 use Rattle.orders.proofs.lowest_late.Tie as tie
 
 abbrev Inv-loop : tie.InvT-loop
-Inv-loop table list latest₀ p₀ latest p = Scan (lowestAt (late table list) list) (first (λ q. q) (late table list)) (length list) p × Latest table list p latest
+Inv-loop table list latest₀ others₀ p₀ latest others p = Scan (lowestAt (late table list) list) (first (λ q. q) (late table list)) (length list) p × Latest table list p latest others
 
 abbrev μ-loop : tie.MeasureT-loop
-μ-loop table list latest₀ p₀ latest p = length list - p
+μ-loop table list latest₀ others₀ p₀ latest others p = length list - p
 
 loop-holds : tie.Need-loop-holds Inv-loop μ-loop
 loop-holds c = (scan-none _ _ refl, latest-none _ _)
@@ -32,14 +30,20 @@ shared-slice-read-operation c = omega arith
 operation-requires : tie.Need-operation-requires Inv-loop μ-loop
 operation-requires c κs = search needs
 
+precedes-any-requires : tie.Need-precedes-any-requires Inv-loop μ-loop
+precedes-any-requires c κs = search needs
+
 returns : tie.Need-returns Inv-loop μ-loop
 returns c =
     let a = c .before .before .before .before .before .before .before .before .args in
     let l = c .before .before .before .before .before .loop in
-    sym (scan-hit _ _ _ _ (omega arith) (l .inv .0) (λ r. first-cons-hit _ _ r _ (sym (latest-late (a .table .now) (a .list .now) (l .p) (l .latest) _ (ap (λ (o : Op). o .finish) (c .before .before .operation .ensures)) (l .inv .1)) ∙ lt-ltb _ _ (c .if1 .taken))))
+    sym (scan-hit _ _ _ _ (omega arith) (l .inv .0) (λ r. first-cons-hit _ _ r _ (sym (latest-late (a .table .now) (a .list .now) (l .p) (l .latest) (l .others) _ _ (c .before .before .operation .ensures) (c .before .precedes-any .ensures) (l .inv .1)) ∙ c .if1 .taken)))
 
 larger-requires : tie.Need-larger-requires Inv-loop μ-loop
 larger-requires c κs = search needs
+
+or-other-requires : tie.Need-or-other-requires Inv-loop μ-loop
+or-other-requires c κs = search needs
 
 add-p : tie.Need-add-p Inv-loop μ-loop
 add-p c = omega arith
@@ -49,9 +53,10 @@ loop-less c = omega arith
 
 loop-again : tie.Need-loop-again Inv-loop μ-loop
 loop-again c =
-    let a = c .before .before .before .before .before .before .before .before .before .args in
-    let l = c .before .before .before .before .before .before .loop in
-    (scan-more _ _ _ _ (omega arith) (l .inv .0) (λ r. first-cons-miss _ _ r _ (sym (latest-late (a .table .now) (a .list .now) (l .p) (l .latest) _ (ap (λ (o : Op). o .finish) (c .before .before .before .operation .ensures)) (l .inv .1)) ∙ le-ltb _ _ (c .before .if1 .left))), latest-more (a .table .now) (a .list .now) (l .p) (l .latest) _ _ (ap (λ (o : Op). o .start) (c .before .before .before .operation .ensures)) (c .larger .ensures) (l .inv .1))
+    let a = c .before .before .before .before .before .before .before .before .before .before .args in
+    let l = c .before .before .before .before .before .before .before .loop in
+    let e = c .before .before .before .before .operation .ensures in
+    (scan-more _ _ _ _ (omega arith) (l .inv .0) (λ r. first-cons-miss _ _ r _ (sym (latest-late (a .table .now) (a .list .now) (l .p) (l .latest) (l .others) _ _ e (c .before .before .before .precedes-any .ensures) (l .inv .1)) ∙ c .before .before .if1 .left)), latest-more (a .table .now) (a .list .now) (l .p) (l .latest) _ (l .others) _ _ e (c .before .larger .ensures) (c .or-other .ensures) (l .inv .1))
 
 returns-2 : tie.Need-returns-2 Inv-loop μ-loop
 unfolding first
@@ -67,8 +72,10 @@ lowest-late-spec =
     mul-operation
     shared-slice-read-operation
     operation-requires
+    precedes-any-requires
     returns
     larger-requires
+    or-other-requires
     add-p
     loop-less
     loop-again

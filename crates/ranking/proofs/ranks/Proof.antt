@@ -10,7 +10,7 @@ stamps-of-requires c κs = search needs
 by-finish-requires : tie.Need-by-finish-requires
 by-finish-requires c κs =
     let a = c .before .before .before .before .before .before .before .before .before .before .before .before .before .before in
-    (a .pre .1 .1 .0, rows-differ (a .args .table .now) (a .args .rows .now) (a .pre .1 .1 .1 .1))
+    (a .pre .1 .1 .0, rows-differ (a .args .table .now) (a .args .rows .now) (a .pre .1 .1 .1 .1) (a .pre .0))
 
 merge-requires : tie.Need-merge-requires
 merge-requires c κs =
@@ -29,7 +29,7 @@ same-length-3 c = search needs
 returns : tie.Need-returns
 returns c =
     let a = c .before .before .before .before .before .before .before .before .before .before .before .before .before .before .before .before .before .before .before .before .before .before .before .before .before in
-    ranks-end (a .args .table .now) (a .args .rows .now) _ _ (a .args .list .now) _ (c .before .before .before .before .before .before .before .before .before .before .before .before .before .before .before .before .before .stamps-of .ensures) (a .pre .1 .1 .0) (c .before .before .before .before .before .before .before .before .before .before .by-finish .ensures) _ _ (c .before .before .before .before .merge .ensures)
+    ranks-end (a .args .table .now) (a .args .rows .now) _ _ (a .args .list .now) _ (c .before .before .before .before .before .before .before .before .before .before .before .before .before .before .before .before .before .stamps-of .ensures) (a .pre .1 .1 .0) (c .before .before .before .before .before .before .before .before .before .before .by-finish .ensures) (a .pre .0) _ _ (c .before .before .before .before .merge .ensures)
 
 pub ranks-spec : {M : Type 1} → statement M
 ranks-spec =

@@ -1,16 +1,19 @@
 -- The loop fills two columns (`Filled`).
 use Prim.Native.Nat.{_-_}
-use mathlib.Core.Path.{ap}
+use mathlib.Core.Path.{ap, _∙_}
 use native.Mathlib.Omega.{arith}
 use lib.ListN.{length}
 use Rattle.lists.proofs.Images.{getD-in}
 use Rattle.lists.proofs.Filled.{Filled, filled-none, filled-more, filled-end}
 use Rattle.history.specs.Table.{opAt}
+use Rattle.methods.specs.Ranks.{starting, finishing}
+use Rattle.preparation.specs.Times.{timeOf}
+use Rattle.ranking.proofs.Ranking.{bounded}
 use Rattle.ranking.proofs.stamps_of.Statement.{statement}
 use Rattle.ranking.proofs.stamps_of.Tie as tie
 
 abbrev Inv-loop : tie.InvT-loop
-Inv-loop table rows starts₀ finishes₀ i₀ starts finishes i = Filled (λ x. opAt table x .start) rows starts₀ i starts × Filled (λ x. opAt table x .finish) rows finishes₀ i finishes
+Inv-loop table rows starts₀ finishes₀ i₀ starts finishes i = Filled (λ x. timeOf (starting (opAt table x))) rows starts₀ i starts × Filled (λ x. timeOf (finishing (opAt table x))) rows finishes₀ i finishes
 
 abbrev μ-loop : tie.MeasureT-loop
 μ-loop table rows starts₀ finishes₀ i₀ starts finishes i = length rows - i
@@ -30,11 +33,25 @@ at-requires c κs =
     let l = c .before .before .loop in
     a .pre .0 .inside _ (getD-in (a .args .rows .now) 0 (l .i) (omega arith))
 
+time-requires : tie.Need-time-requires Inv-loop μ-loop
+time-requires c κs =
+    let a = c .before .before .before .before .before .before .before .before in
+    let l = c .before .before .before .loop in
+    let b = bounded (a .pre .0) (getD-in (a .args .rows .now) 0 (l .i) (omega arith)) in
+    rw (c .at .ensures) (b .0)
+
 mul-starts : tie.Need-mul-starts Inv-loop μ-loop
 mul-starts c = omega arith
 
 slice-write-starts : tie.Need-slice-write-starts Inv-loop μ-loop
 slice-write-starts c = omega arith
+
+time-requires-2 : tie.Need-time-requires-2 Inv-loop μ-loop
+time-requires-2 c κs =
+    let a = c .before .before .before .before .before .before .before .before .before in
+    let l = c .before .before .before .before .loop in
+    let b = bounded (a .pre .0) (getD-in (a .args .rows .now) 0 (l .i) (omega arith)) in
+    rw (c .before .at .ensures) (b .1)
 
 mul-finishes : tie.Need-mul-finishes Inv-loop μ-loop
 mul-finishes c = omega arith
@@ -50,9 +67,12 @@ loop-less c = omega arith
 
 loop-again : tie.Need-loop-again Inv-loop μ-loop
 loop-again c =
-    let p = c .before .before .before .before .before .before .before .before .pre in
-    let l = c .before .before .before .loop in
-    (filled-more _ _ _ (p .1 .0) _ _ _ (omega arith) (ap (λ o. o .start) (c .at .ensures)) (l .inv .0), filled-more _ _ _ (p .1 .1) _ _ _ (omega arith) (ap (λ o. o .finish) (c .at .ensures)) (l .inv .1))
+    let a = c .before .before .before .before .before .before .before .before .before .before in
+    let l = c .before .before .before .before .before .loop in
+    let e = c .before .before .at .ensures in (
+      filled-more _ _ _ (a .pre .1 .0) _ _ _ (omega arith) (c .before .time .ensures ∙ ap (λ o. timeOf (starting o)) e) (l .inv .0),
+      filled-more _ _ _ (a .pre .1 .1) _ _ _ (omega arith) (c .time2 .ensures ∙ ap (λ o. timeOf (finishing o)) e) (l .inv .1),
+    )
 
 same-length : tie.Need-same-length Inv-loop μ-loop
 same-length c = c .before .loop .inv .0 .long
@@ -75,8 +95,10 @@ stamps-of-spec =
     mul-at
     shared-slice-read-at
     at-requires
+    time-requires
     mul-starts
     slice-write-starts
+    time-requires-2
     mul-finishes
     slice-write-finishes
     add-i

@@ -1,141 +1,127 @@
--- The six calls store the six fields, one behind the other (`record-stores`).
-use Prim.Native.Nat.{_*_}
+-- An opening's record is its head; any other has its stamps behind it (`opening-stores`, `record-stores`).
+use Prim.Native.Nat.{ℕ, _+_}
+use mathlib.Core.Path.{ap, _∙_}
+use mathlib.Core.List.{List}
+use native.Mathlib.Omega.{arith}
+use lib.ListN.{length}
+use lib.Seq.{sets, length-sets}
+use Rattle.history.specs.Table.{cell, rowAt}
+use Rattle.records.specs.Records.{headBytes, stampBytes}
+use Rattle.records.proofs.Records.{least-length, short-length, long-length}
+use Rattle.records.proofs.Storing.{opening-stores, record-stores}
 use borrow.Author.Needs.{needs}
-use Rattle.history.specs.Table.{rowAt}
-use Rattle.records.proofs.Storing.{record-stores}
 use Rattle.records.proofs.write_row.Statement.{statement}
 use Rattle.records.proofs.write_row.Tie as tie
 
 mul-base : tie.Need-mul-base
 mul-base c = search needs
 
-mul-at : tie.Need-mul-at
-mul-at c = search needs
+add-kind : tie.Need-add-kind
+add-kind c = search needs
 
-put-two-requires : tie.Need-put-two-requires
-put-two-requires c κs = search needs
+mul-kind : tie.Need-mul-kind
+mul-kind c = search needs
 
-add-put-two : tie.Need-add-put-two
-add-put-two c = search needs
+shared-slice-read-kind : tie.Need-shared-slice-read-kind
+shared-slice-read-kind c = search needs
 
-add-put-two-2 : tie.Need-add-put-two-2
-add-put-two-2 c = search needs
+add-put-head : tie.Need-add-put-head
+add-put-head c = search needs
 
-mul-put-two : tie.Need-mul-put-two
-mul-put-two c = search needs
+mul-put-head : tie.Need-mul-put-head
+mul-put-head c = search needs
 
-shared-slice-read-put-two : tie.Need-shared-slice-read-put-two
-shared-slice-read-put-two c = search needs
+shared-slice-read-put-head : tie.Need-shared-slice-read-put-head
+shared-slice-read-put-head c = search needs
 
-put-two-requires-2 : tie.Need-put-two-requires-2
-put-two-requires-2 c κs = search needs
+add-put-head-2 : tie.Need-add-put-head-2
+add-put-head-2 c = search needs
 
-add-put-eight : tie.Need-add-put-eight
-add-put-eight c = search needs
+mul-put-head-2 : tie.Need-mul-put-head-2
+mul-put-head-2 c = search needs
 
-add-put-eight-2 : tie.Need-add-put-eight-2
-add-put-eight-2 c = search needs
+shared-slice-read-put-head-2 : tie.Need-shared-slice-read-put-head-2
+shared-slice-read-put-head-2 c = search needs
 
-mul-put-eight : tie.Need-mul-put-eight
-mul-put-eight c = search needs
+put-head-requires : tie.Need-put-head-requires
+put-head-requires c κs = omega (arith, c .before .before .before .before .before .before .pre .1, least-length (cell (c .before .before .before .before .before .before .args .table .now) (c .before .before .before .before .before .before .args .row) 1))
 
-shared-slice-read-put-eight : tie.Need-shared-slice-read-put-eight
-shared-slice-read-put-eight c = search needs
-
-put-eight-requires : tie.Need-put-eight-requires
-put-eight-requires c κs = search needs
-
-add-put-eight-3 : tie.Need-add-put-eight-3
-add-put-eight-3 c = search needs
-
-add-put-eight-4 : tie.Need-add-put-eight-4
-add-put-eight-4 c = search needs
-
-mul-put-eight-2 : tie.Need-mul-put-eight-2
-mul-put-eight-2 c = search needs
-
-shared-slice-read-put-eight-2 : tie.Need-shared-slice-read-put-eight-2
-shared-slice-read-put-eight-2 c = search needs
-
-put-eight-requires-2 : tie.Need-put-eight-requires-2
-put-eight-requires-2 c κs = search needs
-
-add-put-eight-5 : tie.Need-add-put-eight-5
-add-put-eight-5 c = search needs
-
-add-put-eight-6 : tie.Need-add-put-eight-6
-add-put-eight-6 c = search needs
-
-mul-put-eight-3 : tie.Need-mul-put-eight-3
-mul-put-eight-3 c = search needs
-
-shared-slice-read-put-eight-3 : tie.Need-shared-slice-read-put-eight-3
-shared-slice-read-put-eight-3 c = search needs
-
-put-eight-requires-3 : tie.Need-put-eight-requires-3
-put-eight-requires-3 c κs = search needs
-
-add-put-eight-7 : tie.Need-add-put-eight-7
-add-put-eight-7 c = search needs
-
-add-put-eight-8 : tie.Need-add-put-eight-8
-add-put-eight-8 c = search needs
-
-mul-put-eight-4 : tie.Need-mul-put-eight-4
-mul-put-eight-4 c = search needs
-
-shared-slice-read-put-eight-4 : tie.Need-shared-slice-read-put-eight-4
-shared-slice-read-put-eight-4 c = search needs
-
-put-eight-requires-4 : tie.Need-put-eight-requires-4
-put-eight-requires-4 c κs = search needs
+add-result : tie.Need-add-result
+add-result c = search needs
 
 same-length : tie.Need-same-length
 same-length c = search needs
 
 returns : tie.Need-returns
 returns c =
-    let finish = c .before .before in
-    let start = finish .before .before .before .before .before in
-    let value = start .before .before .before .before .before in
-    let register = value .before .before .before .before .before in
-    let kind = register .before .before .before .before .before in
-    let body = kind .before .before .before .before .before in
-    let a = body .before .before .before .before .args in
-    rw (finish .put-eight4 .ensures, start .put-eight3 .ensures, value .put-eight2 .ensures, register .put-eight .ensures, kind .put-two2 .ensures, body .put-two .ensures)
-    (record-stores (a .bytes .now) (a .row * 36) (rowAt (a .table .now) (a .row)))
+    let a = c .before .before .before .before .before .before .before .before .before .before .args in
+    let r = rowAt (a .table .now) (a .row) in
+    (omega (arith, short-length (r .kind) (c .if1 .taken)), c .before .before .before .put-head .ensures ∙ opening-stores (a .bytes .now) (a .at) r (c .if1 .taken))
+
+add-put-stamps : tie.Need-add-put-stamps
+add-put-stamps c = search needs
+
+add-put-stamps-2 : tie.Need-add-put-stamps-2
+add-put-stamps-2 c = search needs
+
+mul-put-stamps : tie.Need-mul-put-stamps
+mul-put-stamps c = search needs
+
+shared-slice-read-put-stamps : tie.Need-shared-slice-read-put-stamps
+shared-slice-read-put-stamps c = search needs
+
+add-put-stamps-3 : tie.Need-add-put-stamps-3
+add-put-stamps-3 c = search needs
+
+mul-put-stamps-2 : tie.Need-mul-put-stamps-2
+mul-put-stamps-2 c = search needs
+
+shared-slice-read-put-stamps-2 : tie.Need-shared-slice-read-put-stamps-2
+shared-slice-read-put-stamps-2 c = search needs
+
+put-stamps-requires : tie.Need-put-stamps-requires
+put-stamps-requires c κs =
+    omega (arith, c .before .before .before .before .before .before .before .before .before .before .before .before .before .pre .1, long-length (cell (c .before .before .before .before .before .before .before .before .before .before .before .before .before .args .table .now) (c .before .before .before .before .before .before .before .before .before .before .before .before .before .args .row) 1) (c .before .before .before .if1 .left), ap length (c .before .before .before .before .before .before .put-head .ensures), length-sets (c .before .before .before .before .before .before .before .before .before .before .before .before .before .args .bytes .now) (c .before .before .before .before .before .before .before .before .before .before .before .before .before .args .at) (headBytes (cell (c .before .before .before .before .before .before .before .before .before .before .before .before .before .args .table .now) (c .before .before .before .before .before .before .before .before .before .before .before .before .before .args .row) 1) (cell (c .before .before .before .before .before .before .before .before .before .before .before .before .before .args .table .now) (c .before .before .before .before .before .before .before .before .before .before .before .before .before .args .row) 0) (cell (c .before .before .before .before .before .before .before .before .before .before .before .before .before .args .table .now) (c .before .before .before .before .before .before .before .before .before .before .before .before .before .args .row) 2)))
+
+add-result-2 : tie.Need-add-result-2
+add-result-2 c = search needs
+
+same-length-2 : tie.Need-same-length-2
+same-length-2 c = search needs
+
+returns-2 : tie.Need-returns-2
+returns-2 c =
+    let a = c .before .before .before .before .before .before .before .before .before .before .before .before .before .before .before .before .args in
+    let r = rowAt (a .table .now) (a .row) in
+    let other = c .before .before .before .before .before .before .if1 .left in
+    (omega (arith, long-length (r .kind) other), c .before .before .put-stamps .ensures ∙ ap (λ (l : List ℕ). sets l (a .at + 20) (stampBytes (r .start) (r .finish))) (c .before .before .before .before .before .before .before .before .before .put-head .ensures) ∙ record-stores (a .bytes .now) (a .at) r other)
 
 pub write-row-spec : {M : Type 1} → statement M
 write-row-spec =
     tie.close
     (tie.spec
     mul-base
-    mul-at
-    put-two-requires
-    add-put-two
-    add-put-two-2
-    mul-put-two
-    shared-slice-read-put-two
-    put-two-requires-2
-    add-put-eight
-    add-put-eight-2
-    mul-put-eight
-    shared-slice-read-put-eight
-    put-eight-requires
-    add-put-eight-3
-    add-put-eight-4
-    mul-put-eight-2
-    shared-slice-read-put-eight-2
-    put-eight-requires-2
-    add-put-eight-5
-    add-put-eight-6
-    mul-put-eight-3
-    shared-slice-read-put-eight-3
-    put-eight-requires-3
-    add-put-eight-7
-    add-put-eight-8
-    mul-put-eight-4
-    shared-slice-read-put-eight-4
-    put-eight-requires-4
+    add-kind
+    mul-kind
+    shared-slice-read-kind
+    add-put-head
+    mul-put-head
+    shared-slice-read-put-head
+    add-put-head-2
+    mul-put-head-2
+    shared-slice-read-put-head-2
+    put-head-requires
+    add-result
     same-length
-    returns)
+    returns
+    add-put-stamps
+    add-put-stamps-2
+    mul-put-stamps
+    shared-slice-read-put-stamps
+    add-put-stamps-3
+    mul-put-stamps-2
+    shared-slice-read-put-stamps-2
+    put-stamps-requires
+    add-result-2
+    same-length-2
+    returns-2)

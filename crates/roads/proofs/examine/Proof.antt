@@ -1,4 +1,4 @@
-use Rattle.roads.proofs.Examining.{rows-rising, rows-within, examined-refused, examined-passed}
+use Rattle.roads.proofs.Examining.{rows-rising, passed-fit, examined-refused, examined-passed}
 use borrow.Author.Needs.{needs}
 use Rattle.roads.proofs.examine.Statement.{statement}
 use Rattle.roads.proofs.examine.Tie as tie
@@ -7,7 +7,9 @@ examine-listed-requires : tie.Need-examine-listed-requires
 examine-listed-requires c κs = let p = c .before .before .before .before .pre in rows-rising _ (p .0) (p .1 .0 .0) _ (p .1 .0 .1)
 
 sort-rows-requires : tie.Need-sort-rows-requires
-sort-rows-requires c κs = let p = c .before .before .before .before .before .before .before .before .before .pre in (rows-within _ (p .0) (p .1 .0 .0) _ (p .1 .0 .1), p .1 .1)
+sort-rows-requires c κs =
+    let p = c .before .before .before .before .before .before .before .before .before .pre in
+    (passed-fit _ (p .0) (p .1 .0 .0) _ (p .1 .0 .1) _ (c .before .before .before .before .examine-listed .ensures) (c .before .before .if1 .taken), p .1 .1)
 
 same-length : tie.Need-same-length
 same-length c = search needs

@@ -4,15 +4,14 @@ use mathlib.Core.Path.{refl, ap, _∙_}
 use mathlib.Core.List.{List, _++_}
 use native.Mathlib.Omega.{arith}
 use lib.ListN.{length, getD, drop}
-use Rattle.records.specs.Records.{recordAt, cells}
-use Rattle.records.proofs.Blocks.{length-blocks}
+use Rattle.records.specs.Records.{recordFrom, cells}
+use Rattle.records.proofs.Blocks.{flat-places, length-blocks}
 use Rattle.files.proofs.Filling.{Filling, fill-none, fill-long, fill-more, fill-end}
-use Rattle.selection.proofs.Selecting.{flat-places}
 use Rattle.selection.proofs.copy.Statement.{statement}
 use Rattle.selection.proofs.copy.Tie as tie
 
 abbrev Inv-loop : tie.InvT-loop
-Inv-loop bytes picks table₀ i₀ table i = Filling (λ k. cells (recordAt bytes (getD picks k 0))) table₀ (length picks) i table
+Inv-loop bytes picks table₀ i₀ table i = Filling (λ k. cells (recordFrom bytes (getD picks k 0))) table₀ (length picks) i table
 
 abbrev μ-loop : tie.MeasureT-loop
 μ-loop bytes picks table₀ i₀ table i = length picks - i
@@ -33,7 +32,7 @@ read-row-requires : tie.Need-read-row-requires Inv-loop μ-loop
 read-row-requires c κs =
     let p = c .before .before .before .before .before .before .before .pre in
     let l = c .before .before .before .loop in
-    (p .0 _ (omega arith), omega (arith, p .1, fill-long _ _ _ _ _ (l .inv)))
+    (p .0 (l .i) (omega arith) .whole, omega (arith, p .1, fill-long _ _ _ _ _ (l .inv)))
 
 add-i : tie.Need-add-i Inv-loop μ-loop
 add-i c = omega arith
@@ -51,7 +50,7 @@ same-length c = fill-long _ _ _ _ _ (c .before .loop .inv)
 returns : tie.Need-returns Inv-loop μ-loop
 returns c =
     let a = c .before .before .before .before .before .args in
-    let g : ℕ → List ℕ = λ n. cells (recordAt (a .bytes .now) n) in
+    let g : ℕ → List ℕ = λ n. cells (recordFrom (a .bytes .now) n) in
     let h : ℕ → List ℕ = λ k. g (getD (a .picks .now) k 0) in
     fill-end _ _ _ _ _ (c .before .loop .inv) (omega arith) (omega (arith, c .before .before .before .before .before .pre .1, length-blocks h 5 (λ k. refl) (length (a .picks .now))))
     ∙ ap (λ l. l ++ drop (length l) (a .table .now)) (flat-places g (a .picks .now))

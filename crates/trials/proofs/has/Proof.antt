@@ -1,6 +1,7 @@
 -- Nothing is said of the result.
 use Prim.Native.Nat.{_≤_, _-_}
 use native.Mathlib.Omega.{arith}
+use borrow.Author.Needs.{needs}
 use Rattle.trials.proofs.has.Statement.{statement}
 use Rattle.trials.proofs.has.Tie as tie
 
@@ -16,11 +17,11 @@ loop-holds c = omega arith
 at-requires : tie.Need-at-requires Inv-loop μ-loop
 at-requires c κs = omega arith
 
+has-stamp-requires : tie.Need-has-stamp-requires Inv-loop μ-loop
+has-stamp-requires c κs = search needs
+
 returns : tie.Need-returns Inv-loop μ-loop
 returns c = omega arith
-
-returns-2 : tie.Need-returns-2 Inv-loop μ-loop
-returns-2 c = omega arith
 
 add-i : tie.Need-add-i Inv-loop μ-loop
 add-i c = omega arith
@@ -31,8 +32,8 @@ loop-less c = omega arith
 loop-again : tie.Need-loop-again Inv-loop μ-loop
 loop-again c = omega arith
 
-returns-3 : tie.Need-returns-3 Inv-loop μ-loop
-returns-3 c = omega arith
+returns-2 : tie.Need-returns-2 Inv-loop μ-loop
+returns-2 c = omega arith
 
 pub has-spec : {M : Type 1} → statement M
 has-spec =
@@ -42,9 +43,9 @@ has-spec =
     μ-loop
     loop-holds
     at-requires
+    has-stamp-requires
     returns
-    returns-2
     add-i
     loop-less
     loop-again
-    returns-3)
+    returns-2)

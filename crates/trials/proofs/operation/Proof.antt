@@ -21,67 +21,70 @@ next-requires-3 : tie.Need-next-requires-3
 next-requires-3 c κs = search needs
 
 mul-at : tie.Need-mul-at
-mul-at c = omega arith
-
-add-at : tie.Need-add-at
-add-at c = omega arith
+mul-at c = search needs
 
 pick-requires : tie.Need-pick-requires
 pick-requires c κs = search needs
 
-sub-start : tie.Need-sub-start
-sub-start c = omega arith
+started-requires : tie.Need-started-requires
+started-requires c κs = search needs
+
+stamp-requires : tie.Need-stamp-requires
+stamp-requires c κs = search needs
 
 pick-requires-2 : tie.Need-pick-requires-2
 pick-requires-2 c κs = search needs
 
-add-finish : tie.Need-add-finish
-add-finish c = omega arith
+add-stamp : tie.Need-add-stamp
+add-stamp c = search needs
+
+stamp-requires-2 : tie.Need-stamp-requires-2
+stamp-requires-2 c κs = search needs
 
 mul-base : tie.Need-mul-base
-mul-base c = omega arith
+mul-base c = search needs
 
 add-table : tie.Need-add-table
-add-table c = omega arith
+add-table c = search needs
 
 mul-table : tie.Need-mul-table
-mul-table c = omega arith
+mul-table c = search needs
 
 slice-write-table : tie.Need-slice-write-table
-slice-write-table c = omega arith
+slice-write-table c = search needs
 
 add-table-2 : tie.Need-add-table-2
-add-table-2 c = omega arith
+add-table-2 c = search needs
 
 mul-table-2 : tie.Need-mul-table-2
-mul-table-2 c = omega arith
+mul-table-2 c = search needs
 
 slice-write-table-2 : tie.Need-slice-write-table-2
 slice-write-table-2 c = simp length-set (omega arith)
 
 add-table-3 : tie.Need-add-table-3
-add-table-3 c = omega arith
+add-table-3 c = search needs
 
 mul-table-3 : tie.Need-mul-table-3
-mul-table-3 c = omega arith
+mul-table-3 c = search needs
 
 slice-write-table-3 : tie.Need-slice-write-table-3
 slice-write-table-3 c = simp length-set (omega arith)
 
 add-table-4 : tie.Need-add-table-4
-add-table-4 c = omega arith
+add-table-4 c = search needs
 
 mul-table-4 : tie.Need-mul-table-4
-mul-table-4 c = omega arith
+mul-table-4 c = search needs
 
 slice-write-table-4 : tie.Need-slice-write-table-4
 slice-write-table-4 c = simp length-set (omega arith)
 
 add-table-5 : tie.Need-add-table-5
-add-table-5 c = omega arith
+add-table-5 c = search needs
 
 mul-table-5 : tie.Need-mul-table-5
-mul-table-5 c = omega arith
+mul-table-5 c = search needs
 
 slice-write-table-5 : tie.Need-slice-write-table-5
 slice-write-table-5 c = simp length-set (omega arith)
@@ -105,11 +108,12 @@ operation-spec =
     next-requires-2
     next-requires-3
     mul-at
-    add-at
     pick-requires
-    sub-start
+    started-requires
+    stamp-requires
     pick-requires-2
-    add-finish
+    add-stamp
+    stamp-requires-2
     mul-base
     add-table
     mul-table

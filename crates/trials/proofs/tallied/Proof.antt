@@ -27,6 +27,9 @@ agrees-requires c κs = search needs
 tied-requires : tie.Need-tied-requires
 tied-requires c κs = search needs
 
+opened-requires : tie.Need-opened-requires
+opened-requires c κs = search needs
+
 add-requires : tie.Need-add-requires
 add-requires c κs = search needs
 
@@ -44,5 +47,6 @@ tallied-spec =
     slice-aggregate-agrees
     agrees-requires
     tied-requires
+    opened-requires
     add-requires
     returns)

@@ -13,23 +13,11 @@ abbrev μ-loop : tie.MeasureT-loop
 loop-holds : tie.Need-loop-holds Inv-loop μ-loop
 loop-holds c = omega arith
 
-at-requires : tie.Need-at-requires Inv-loop μ-loop
-at-requires c κs = omega arith
+meets-requires : tie.Need-meets-requires Inv-loop μ-loop
+meets-requires c κs = omega arith
 
 returns : tie.Need-returns Inv-loop μ-loop
 returns c = omega arith
-
-has-requires : tie.Need-has-requires Inv-loop μ-loop
-has-requires c κs = omega arith
-
-returns-2 : tie.Need-returns-2 Inv-loop μ-loop
-returns-2 c = omega arith
-
-has-requires-2 : tie.Need-has-requires-2 Inv-loop μ-loop
-has-requires-2 c κs = omega arith
-
-returns-3 : tie.Need-returns-3 Inv-loop μ-loop
-returns-3 c = omega arith
 
 add-i : tie.Need-add-i Inv-loop μ-loop
 add-i c = omega arith
@@ -40,8 +28,8 @@ loop-less c = omega arith
 loop-again : tie.Need-loop-again Inv-loop μ-loop
 loop-again c = omega arith
 
-returns-4 : tie.Need-returns-4 Inv-loop μ-loop
-returns-4 c = omega arith
+returns-2 : tie.Need-returns-2 Inv-loop μ-loop
+returns-2 c = omega arith
 
 pub tied-spec : {M : Type 1} → statement M
 tied-spec =
@@ -50,13 +38,9 @@ tied-spec =
     Inv-loop
     μ-loop
     loop-holds
-    at-requires
+    meets-requires
     returns
-    has-requires
-    returns-2
-    has-requires-2
-    returns-3
     add-i
     loop-less
     loop-again
-    returns-4)
+    returns-2)

@@ -9,10 +9,6 @@ use Rattle.zone_list.proofs.Listing.{made-sound, writers-long, low-take
 use borrow.Author.Needs.{needs}
 use Rattle.zone_list.proofs.fill.Statement.{statement}
 use Rattle.zone_list.proofs.fill.Tie as tie
-use Rattle.zone_list.proofs.fill.Reads as reads
-use Rattle.zone_list.proofs.fill.Lts as lts
-use Rattle.zone_list.proofs.put_zones.Reads as put-zones-reads
-use Rattle.zones.proofs.by_low.Reads as by-low-reads
 
 by-low-requires : tie.Need-by-low-requires
 by-low-requires c κs =
@@ -25,29 +21,29 @@ mul-if1 c = search needs
 
 slice-reshare-prefix-put-zones : tie.Need-slice-reshare-prefix-put-zones
 slice-reshare-prefix-put-zones c =
-    let q = c .before .before .before .before .before .before .before .before .before .before .before .before .before .before .before .before .before .before .before .before .before .before .pre in
+    let q = c .before .before .before .before .before .before .before .before .before .before .before .before .before .before .before .before .before .before .before .before .before .before .before .pre in
     let g = q .1 .0 .1 in
-    let w = c .before .before .before .before .before .before .before .by-low in
+    let w = c .before .before .before .before .before .before .before .before .by-low in
     omega (arith, w .ensures .0, w .kept .1 .1 .1 .1 .1 .1 .0, q .1 .1 .1 .0, writers-long g (q .0))
 
 slice-aggregate-put-zones : tie.Need-slice-aggregate-put-zones
 slice-aggregate-put-zones c =
-    let q = c .before .before .before .before .before .before .before .before .before .before .before .before .before .before .before .before .before .before .before .before .before .before .before .pre in
+    let q = c .before .before .before .before .before .before .before .before .before .before .before .before .before .before .before .before .before .before .before .before .before .before .before .before .pre in
     let g = q .1 .0 .1 in
-    let w = c .before .before .before .before .before .before .before .before .by-low in
+    let w = c .before .before .before .before .before .before .before .before .before .by-low in
     sym (length-take-le (w .result) _ (omega (arith, w .ensures .0, w .kept .1 .1 .1 .1 .1 .1 .0, q .1 .1 .1 .0, writers-long g (q .0))))
 
 put-zones-requires : tie.Need-put-zones-requires
 put-zones-requires c κs =
-    let q = c .before .before .before .before .before .before .before .before .before .before .before .before .before .before .before .before .before .before .before .before .before .before .before .before .pre in
+    let q = c .before .before .before .before .before .before .before .before .before .before .before .before .before .before .before .before .before .before .before .before .before .before .before .before .before .pre in
     let g = q .1 .0 .1 in
-    let w = c .before .before .before .before .before .before .before .before .before .by-low in
+    let w = c .before .before .before .before .before .before .before .before .before .before .by-low in
     let z = lates-zoned _ (made-sound g (q .0)) _ (w .ensures .1 .1) in
     let r = w .kept .1 .1 .1 .1 .1 .1 .0 ∙ q .1 .1 .1 .0 in
-    let e = places-long g (q .0) _ z _ _ (w .ensures .0) r (w .ensures .1 .0) in (
-      listed-fit g,
-      (writers-long g (q .0), (q .0 .chains, (timely g (q .0), (put-takes g (q .0) _ z _ _ (w .ensures .0) r (w .ensures .1 .0), omega (arith, e, c .before .before .if1 .taken))))),
-    )
+    let e = places-long g (q .0) _ z _ _ (w .ensures .0) r (w .ensures .1 .0) in
+    let t = put-takes g (q .0) _ z _ _ (w .ensures .0) r (w .ensures .1 .0) in
+    let l = w .kept .1 .1 .1 .1 .0 ∙ q .1 .1 .0 in
+    (listed-fit g, (writers-long g (q .0), (q .0 .chains, (timely g (q .0), (l, (t, omega (arith, e, c .before .before .before .if1 .taken)))))))
 
 same-length : tie.Need-same-length
 same-length c = search needs
@@ -63,12 +59,12 @@ same-length-4 c = search needs
 
 returns : tie.Need-returns
 returns c =
-    let q = c .before .before .before .before .before .before .before .before .before .before .before .before .before .before .before .before .before .before .before .before .before .before .before .before .before .before .before .pre in
+    let q = c .before .before .before .before .before .before .before .before .before .before .before .before .before .before .before .before .before .before .before .before .before .before .before .before .before .before .before .before .pre in
     let g = q .1 .0 .1 in
-    let w = c .before .before .before .before .before .before .before .before .before .before .before .before .by-low in
+    let w = c .before .before .before .before .before .before .before .before .before .before .before .before .before .by-low in
     let z = lates-zoned _ (made-sound g (q .0)) _ (w .ensures .1 .1) in
     let r = w .kept .1 .1 .1 .1 .1 .1 .0 ∙ q .1 .1 .1 .0 in
-    let f = fill-full (q .0) (q .1 .0) _ z _ _ (w .ensures .0) r (w .ensures .1 .0) _ _ (omega (arith, c .before .before .before .before .before .if1 .taken)) (c .before .before .put-zones .ensures) in
+    let f = fill-full (q .0) (q .1 .0) _ z _ _ (w .ensures .0) r (w .ensures .1 .0) _ _ (omega (arith, c .before .before .before .before .before .before .if1 .taken)) (c .before .before .put-zones .ensures) in
     (fill-few (q .0) (q .1 .0) _ z _ _ (w .ensures .0) r (w .ensures .1 .0), (z, (w .ensures .1 .0, f)))
 
 same-length-5 : tie.Need-same-length-5

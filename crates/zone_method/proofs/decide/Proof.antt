@@ -2,14 +2,9 @@
 use Prim.Native.Nat.{_-_}
 use mathlib.Core.Path.{sym}
 use native.Mathlib.Omega.{arith}
-use borrow.Author.Needs.{needs}
 use Rattle.zone_method.proofs.Passing.{Passing, pass-none, pass-end, pass-hit, pass-on}
 use Rattle.zone_method.proofs.decide.Statement.{statement}
 use Rattle.zone_method.proofs.decide.Tie as tie
-use Rattle.zone_method.proofs.decide.Reads as reads
-use Rattle.zone_method.proofs.decide.Lts as lts
-use Rattle.zone_method.proofs.reached.Reads as reached-reads
-use Rattle.zone_method.proofs.zone_at.Reads as zone-at-reads
 
 abbrev Inv-loop : tie.InvT-loop
 Inv-loop list n bound₀ i₀ bound i = Passing list n i bound
@@ -20,23 +15,23 @@ abbrev μ-loop : tie.MeasureT-loop
 loop-holds : tie.Need-loop-holds Inv-loop μ-loop
 loop-holds c = pass-none _ _
 
-zone-at-requires : tie.Need-zone-at-requires Inv-loop μ-loop
-zone-at-requires c κs = omega (arith, c .before .before .before .pre)
-
 add-i : tie.Need-add-i Inv-loop μ-loop
 add-i c = omega arith
 
+finish-at-requires : tie.Need-finish-at-requires Inv-loop μ-loop
+finish-at-requires c κs = omega (arith, c .before .before .before .pre)
+
 returns : tie.Need-returns Inv-loop μ-loop
-returns c = sym (pass-hit _ _ _ _ (c .before .before .before .before .loop .inv) (omega arith) _ (c .before .before .zone-at .ensures) (c .if1 .taken))
+returns c = sym (pass-hit _ _ _ _ (c .before .before .before .loop .inv) (omega arith) _ (c .before .finish-at .ensures) (c .if1 .taken))
 
 reached-requires : tie.Need-reached-requires Inv-loop μ-loop
-reached-requires c κs = search needs
+reached-requires c κs = omega (arith, c .before .before .before .before .before .pre)
 
 loop-less : tie.Need-loop-less Inv-loop μ-loop
 loop-less c = omega arith
 
 loop-again : tie.Need-loop-again Inv-loop μ-loop
-loop-again c = pass-on _ _ _ _ (c .before .before .before .before .before .loop .inv) (omega arith) _ (c .before .before .before .zone-at .ensures) (c .before .if1 .left) _ (c .reached .ensures)
+loop-again c = pass-on _ _ _ _ (c .before .before .before .before .loop .inv) (omega arith) _ (c .before .before .finish-at .ensures) (c .before .if1 .left) _ (c .reached .ensures)
 
 returns-2 : tie.Need-returns-2 Inv-loop μ-loop
 returns-2 c = sym (pass-end _ _ _ _ (c .before .loop .inv) (omega arith))
@@ -48,8 +43,8 @@ decide-spec =
     Inv-loop
     μ-loop
     loop-holds
-    zone-at-requires
     add-i
+    finish-at-requires
     returns
     reached-requires
     loop-less
