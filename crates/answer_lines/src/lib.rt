@@ -1,5 +1,7 @@
 // Lines that the programs which execute known cases print: an answer with its name, and a list. The functions promise nothing, as no contract
 // can say what the system takes; what is printed is compared with a file.
+#![tactic(auto)]
+
 use history::Answer;
 use libc::STDOUT_FILENO;
 

@@ -1,4 +1,6 @@
 // The answers of a road as text: the header line, and a line for each register of a history file, ascending.
+#![tactic(auto)]
+
 ghost use Rattle.std.specs.Prelude.{◌≡◌, ◌+◌, ◌*◌, ◌≤◌, length};
 ghost use Rattle.std.proofs.lemmas.List.Edits.{sets};
 ghost use Rattle.history.specs.Table.{largest_count, row_count};

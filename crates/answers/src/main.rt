@@ -1,4 +1,6 @@
 // answers QUESTION ALLOWANCE: reads a history file from standard input and prints what the marking call answers for each of its registers.
+#![tactic(auto)]
+
 use parsing::Number;
 
 fn main() {

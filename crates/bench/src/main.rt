@@ -1,4 +1,6 @@
 // bench REGISTER ALLOWANCE: reads a history file from standard input and prints the marks of a register, and the orders of the fresh ones.
+#![tactic(auto)]
+
 use parsing::Number;
 
 fn main() {

@@ -1,5 +1,7 @@
 // The library's calls under names for C, for the tests in compare/ alone. This crate is no part of the product, whose entry for C is the one function
 // of `host`. Each function makes the call of its name and puts the answer's four numbers at the front of the slice `to`.
+#![tactic(auto)]
+
 ghost use Rattle.std.specs.Prelude.{◌≡◌, length};
 ghost use Rattle.history.specs.Answer.{list_after, answer_after};
 ghost use Rattle.history.specs.Screen.{screening};

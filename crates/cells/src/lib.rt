@@ -1,4 +1,6 @@
 // The cells of a text: where one ends, and what it says. A comma or a line feed ends a cell.
+#![tactic(auto)]
+
 ghost use Rattle.std.specs.Prelude.{◌≡◌, cond, ◌||◌, ◌+◌, eqb, ltb};
 ghost use Rattle.parsing.specs.declared.Number.TheVariants.{Is, Nothing};
 ghost use Rattle.parsing.specs.Numbers.{number_of, says};
@@ -10,7 +12,7 @@ use history::Op;
 use parsing::Number;
 
 // Where a cell ends, and what it says.
-#[derive(Drop)]
+#[derive(Clone, Copy)]
 pub struct Cell {
     pub end: usize,
     pub number: Number,

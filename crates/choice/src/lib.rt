@@ -1,4 +1,6 @@
 // The orders that figure 4 lists for a chunk, tried one by one: the first that is viable.
+#![tactic(auto)]
+
 ghost use Rattle.std.specs.Prelude.{◌≡◌, [], ◌∷◌, ◌++◌, ℕ, ◌+◌, ◌≤◌, ◌<◌, length, get_or, take};
 ghost use Rattle.history.specs.Table.{largest_count};
 ghost use Rattle.positions.specs.Columns.{cols, Sound};

@@ -1,4 +1,6 @@
 // FZF's chunks over the columns: the runs of forward zones, the backward zones inside them, and the dangling ones.
+#![tactic(auto)]
+
 ghost use Rattle.std.specs.Prelude.{◌≡◌, true, List, ℕ, ◌≤◌, ◌<◌, length, get_or, take, drop};
 ghost use Rattle.history.specs.Table.{largest_count};
 ghost use Rattle.lists.specs.Lists.{keep};
@@ -10,14 +12,14 @@ ghost use Rattle.chunking.specs.Chunks.{faces, lies, Spans, Skips};
 ghost use Rattle.chunking.specs.Inner.{Rises, Behind, Reaches, Encloses, Sides, Marked, Hangs};
 
 // Where a run of forward zones ends in their list, and its largest high end.
-#[derive(Drop)]
+#[derive(Clone, Copy)]
 pub struct Span {
     pub end: usize,
     pub top: u64,
 }
 
 // How many backward writes lie inside a run, and where those behind it begin.
-#[derive(Drop)]
+#[derive(Clone, Copy)]
 pub struct Enclosed {
     pub count: usize,
     pub next: usize,

@@ -1,4 +1,6 @@
 // Stamps as clock time, days:hh:mm:ss.mmm: written into a lent text, and read out of one.
+#![tactic(auto)]
+
 ghost use Rattle.std.specs.Prelude.{◌≡◌, ◌+◌, ◌≤◌, length};
 ghost use Rattle.std.proofs.lemmas.List.Edits.{sets};
 ghost use Rattle.text.specs.Decimal.{digit};

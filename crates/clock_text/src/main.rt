@@ -1,4 +1,6 @@
 // clock_text STAMP: prints a stamp as clock time, days:hh:mm:ss.mmm.
+#![tactic(auto)]
+
 use history::Answer;
 use parsing::Number;
 

@@ -1,4 +1,6 @@
 // From the table and a screened register to the columns of its prepared history, in lent slices with a place for each operation.
+#![tactic(auto)]
+
 ghost use Rattle.std.specs.Prelude.{◌≡◌, true, List, map, ℕ, ◌≤◌, ◌<◌, length, get_or, take};
 ghost use Rattle.history.specs.Table.{largest_count, row_count, op_at, history};
 ghost use Rattle.history.specs.declared.Op.{Op as Operation};

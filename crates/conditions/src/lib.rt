@@ -1,4 +1,6 @@
 // Tests 4 to 9 of a list of rows, 20 among them, by the position of each row's write.
+#![tactic(auto)]
+
 ghost use Rattle.std.specs.Prelude.{◌≡◌, true, ◌&&◌, ◌<◌, map, ltb, leb, length, get_or};
 ghost use Rattle.history.specs.Table.{op_at, is_opening, is_write, is_read, precedes};
 ghost use Rattle.history.specs.Answer.{number, first_met, passed, or_test};
@@ -10,7 +12,7 @@ use history::{Answer, Op, Row};
 use lists::Found;
 
 // The tests that look at each row of the register, in their sequence.
-#[derive(Drop)]
+#[derive(Clone, Copy)]
 enum RowTest {
     Kind,
     Span,

@@ -1,4 +1,6 @@
 // What the programs ask of the system: all of an input, a number among the arguments, printing, complaining. The contracts of the C library's calls are assumed.
+#![tactic(auto)]
+
 ghost use Rattle.std.specs.Prelude.{◌≡◌, length};
 ghost use Rattle.io.specs.Counts.{IsPrefixLen};
 ghost use Rattle.parsing.specs.Numbers.{lines_in, stored};
@@ -8,7 +10,7 @@ use libc::{STDERR_FILENO, STDOUT_FILENO};
 use parsing::{Count, Number};
 
 // How many bytes of an input stand at the front of the buffer, and whether no read failed.
-#[derive(Drop)]
+#[derive(Clone, Copy)]
 pub struct Input {
     pub sound: bool,
     pub count: usize,
@@ -56,7 +58,7 @@ fn take_file(path: &[u8], bytes: &mut [u8]) -> Input
 }
 
 // How many row numbers stand at the front of the list, whether their file could be read, and whether it has a number on each line.
-#[derive(Drop)]
+#[derive(Clone, Copy)]
 pub struct Listing {
     pub readable: bool,
     pub sound: bool,

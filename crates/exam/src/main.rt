@@ -1,4 +1,6 @@
 // exam REGISTER K ORDERFILE: what bench prints with 524,800 trials allowed, and the check of the order in the file.
+#![tactic(auto)]
+
 use parsing::Number;
 
 fn main() {

@@ -1,4 +1,6 @@
 // The sheet of a register of a history file, which the programs bench and exam print.
+#![tactic(auto)]
+
 ghost use Rattle.records.specs.Records.{table_of};
 ghost use Rattle.marks.specs.Marks.{most_trials};
 ghost use Rattle.printing.specs.Texts.{Printed};

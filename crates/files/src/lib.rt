@@ -1,4 +1,6 @@
 // History files: a table's rows as records of bytes, read and written. A refused call leaves the lent buffer as it was.
+#![tactic(auto)]
+
 ghost use Rattle.std.specs.Prelude.{◌≡◌, not, ◌||◌, [], ◌∷◌, ◌++◌, ◌*◌, ◌≤◌, ◌<◌, eqb, length, drop};
 ghost use Rattle.history.specs.Table.{row_count};
 ghost use Rattle.history.specs.Answer.{test, first_met, passed, lowest_row};

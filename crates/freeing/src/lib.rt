@@ -1,4 +1,6 @@
 // The marks of a chunk's operations: its clusters are set free to be placed, and shut again, by the chains of their reads.
+#![tactic(auto)]
+
 ghost use Rattle.std.specs.Prelude.{◌≡◌, ◌++◌, ℕ, ◌≤◌, ◌<◌, length, get_or};
 ghost use Rattle.history.specs.Table.{largest_count};
 ghost use Rattle.positions.specs.Columns.{Linked};

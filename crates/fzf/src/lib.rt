@@ -1,4 +1,6 @@
 // FZF over a prepared history in columns: the writes by low end, the forward and the backward ones, what lies inside a run, and the joining.
+#![tactic(auto)]
+
 ghost use Rattle.std.specs.Prelude.{◌≡◌, true, ℕ, ◌≤◌, ◌<◌, length};
 ghost use Rattle.history.specs.Table.{largest_count};
 ghost use Rattle.methods.specs.Fzf.{fzf};

@@ -1,4 +1,6 @@
 // The rows of a table by register: its registers, ascending, and the rows of each, without a pass over the table for each.
+#![tactic(auto)]
+
 ghost use Rattle.std.specs.Prelude.{◌≡◌, ◌+◌, ◌*◌, ◌≤◌, length};
 ghost use Rattle.history.specs.Table.{row_count, rows_of};
 ghost use Rattle.grouping.specs.Registers.{register_at, register_column, distinct};

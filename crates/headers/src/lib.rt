@@ -1,10 +1,12 @@
 // The header of a log: where each needed column stands, read in one walk over its cells.
+#![tactic(auto)]
+
 ghost use Rattle.std.specs.Prelude.{◌≡◌, false, cond, ltb};
 ghost use Rattle.headers.specs.Header.{more, is_only, place, places_of, complete};
 ghost use Rattle.headers.specs.Steps.{header_of, named_with};
 
 // What of a name is found in the header.
-#[derive(Drop)]
+#[derive(Clone, Copy)]
 pub enum Column {
     Missing,
     Only(usize),
@@ -12,7 +14,7 @@ pub enum Column {
 }
 
 // The five needed columns, as found.
-#[derive(Drop)]
+#[derive(Clone, Copy)]
 pub struct Named {
     register: Column,
     kind: Column,
@@ -22,7 +24,7 @@ pub struct Named {
 }
 
 // The numbers of the five needed columns.
-#[derive(Drop)]
+#[derive(Clone, Copy)]
 pub struct Columns {
     pub register: usize,
     pub kind: usize,
@@ -32,7 +34,7 @@ pub struct Columns {
 }
 
 // What loading knows of the header line: whether it is sound, where the data lines start, the count of cells, and the needed columns.
-#[derive(Drop)]
+#[derive(Clone, Copy)]
 pub struct Header {
     pub sound: bool,
     pub start: usize,

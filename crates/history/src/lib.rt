@@ -1,10 +1,12 @@
 // The history: a row of the table, an operation, and the answer of every call.
+#![tactic(auto)]
+
 ghost use Rattle.std.specs.Prelude.{◌≡◌, ◌+◌, ◌*◌, ◌≤◌, length, eqb};
 ghost use Rattle.history.specs.Table.{row_at, operation, op_at, bears, is_opening, is_write, is_read, precedes};
 ghost use Rattle.history.specs.Screen.{stray_opening};
 ghost use Rattle.history.specs.Answer.{refused_by, passed, answer_after, list_after};
 
-#[derive(Drop)]
+#[derive(Clone, Copy)]
 pub struct Row {
     pub register: u64,
     pub kind: u64,
@@ -14,7 +16,7 @@ pub struct Row {
 }
 
 // An operation of a register: the number of its row, and the row without the register.
-#[derive(Drop)]
+#[derive(Clone, Copy)]
 pub struct Op {
     pub row: usize,
     pub kind: u64,
@@ -147,7 +149,7 @@ impl Op {
     }
 }
 
-#[derive(Drop)]
+#[derive(Clone, Copy)]
 pub struct Answer {
     pub code: u64,
     pub row: u64,

@@ -1,4 +1,6 @@
 // One entry for a C host: a file's bytes, a register and a question, and the code comes back.
+#![tactic(auto)]
+
 ghost use Rattle.std.specs.Prelude.{◌≡◌, ◌≢◌, ◌*◌, ◌≤◌, length};
 ghost use Rattle.history.specs.Answer.{number, short_list};
 ghost use Rattle.records.specs.Records.{table_of};

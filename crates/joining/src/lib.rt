@@ -1,4 +1,6 @@
 // The joining of FZF: chunks and dangling clusters of a prepared history in columns, each with its order, by low end.
+#![tactic(auto)]
+
 ghost use Rattle.std.specs.Prelude.{◌≡◌, ◌++◌, ℕ, ◌+◌, ◌≤◌, ◌<◌, length, get_or, take};
 ghost use Rattle.history.specs.Table.{largest_count};
 ghost use Rattle.methods.specs.Zones.{low};
@@ -15,7 +17,7 @@ ghost use Rattle.joining.specs.Next.{chunk_first, over_at, Waiting};
 use placing::Search;
 
 // What a chunk gives: where its order begins at the end of the part, or that it has none; and where the backward writes behind it begin.
-#[derive(Drop)]
+#[derive(Clone, Copy)]
 struct Ordered {
     at: usize,
     failed: bool,
@@ -23,7 +25,7 @@ struct Ordered {
 }
 
 // What the next item gives: the same, and where the forward and the backward writes behind it begin.
-#[derive(Drop)]
+#[derive(Clone, Copy)]
 pub struct Next {
     pub at: usize,
     pub failed: bool,

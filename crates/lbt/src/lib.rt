@@ -1,4 +1,6 @@
 // LBT over the columns of a prepared history: epochs of placing steps, rounds over the candidates, and the walk that counts the trials.
+#![tactic(auto)]
+
 ghost use Rattle.std.specs.Prelude.{◌≡◌, true, ℕ, ◌≤◌, ◌<◌, length, get_or};
 ghost use Rattle.history.specs.Table.{largest_count};
 ghost use Rattle.methods.specs.Mark.{walked};
@@ -15,7 +17,7 @@ use placing::Search;
 
 // What an epoch gives beside the lent marks and order: it failed, and every mark is as it was; or it ended well, and the order begins at the first
 // number, while nothing from the second on is left to place.
-#[derive(Drop)]
+#[derive(Clone, Copy)]
 enum Trial {
     Failed,
     Placed(usize, usize),
@@ -23,7 +25,7 @@ enum Trial {
 
 // What a round gives beside them: no epoch ended well, after so many trials; one did, with its two numbers, after so many trials; or the allowance
 // was used up.
-#[derive(Drop)]
+#[derive(Clone, Copy)]
 enum Turn {
     Lost(u64),
     Won(usize, usize, u64),

@@ -1,4 +1,6 @@
 // The lines of a sheet, each written from a place of a buffer on: the answers to the questions, the order of a fresh mark, a check of an order.
+#![tactic(auto)]
+
 ghost use Rattle.std.specs.Prelude.{◌≡◌, ◌+◌, ◌≤◌, ◌<◌, length};
 ghost use Rattle.lines.specs.Lines.{Put, places, answer_line, answers_of, order_of, check_line};
 

@@ -59,6 +59,7 @@ module _ {A : Type 0} where
       go : (b : Bool) → length (keep q (keep p l)) < length (keep q l) → length (keep q (put b x (keep p l))) < length (put (q x) x (keep q l))
       go true h = put_mono_lt (q x) x _ _ h
       go false h = omega (arith, put_more (q x) x (keep q l))
+  keep_lt q p [] {y = y} x3 hq hp = elim x3 [ ]
 
   -- more elements pass a test that all of them pass and one more
   pub keep_more : (p q : A → Bool) (l : List A) → ((x : A) → p x ≡ true → q x ≡ true) → {y : A} → In y l → p y ≡ false → q y ≡ true

@@ -29,10 +29,13 @@ at_in (x ∷ l) (suc p) h = there (at_in l p (omega arith))
 pub in_take : (n : ℕ) (l : List ℕ) {x : ℕ} → In x (take n l) → In x l
 in_take (suc n) (y ∷ l) (here e) = here e
 in_take (suc n) (y ∷ l) (there m) = there (in_take n l m)
+in_take zero l x3 = elim x3 [ ]
+in_take (suc n) [] x6 = elim x6 [ ]
 
 pub in_drop : (n : ℕ) (l : List ℕ) {x : ℕ} → In x (drop n l) → In x l
 in_drop zero l m = m
 in_drop (suc n) (y ∷ l) m = there (in_drop n l m)
+in_drop (suc n) [] m = elim m [ ]
 
 -- a list without its first x
 remove : ℕ → List ℕ → List ℕ
@@ -47,6 +50,7 @@ remove_length x (y ∷ l) m = go (eqb x y) refl m (remove_length x l)
     go true e k ih = refl
     go false e (here q) ih = absurd (eqb-false x y e q)
     go false e (there k) ih = ap suc (ih k)
+remove_length x [] m = elim m [ ]
 
 remove_in : (x : ℕ) (l : List ℕ) {r : ℕ} → In r l → r ≢ x → In r (remove x l)
 unfolding remove
@@ -57,6 +61,7 @@ remove_in x (y ∷ l) {r} m n = go (eqb x y) refl m (λ k. remove_in x l k n)
     go true e (there k) ih = k
     go false e (here q) ih = here q
     go false e (there k) ih = there (ih k)
+remove_in x [] {r = r} m n = elim m [ ]
 
 pub cover : (l rs : List ℕ) → ((p : ℕ) → p < length l → In (get_or l p 0) rs) → ((p q : ℕ) → p < q → q < length l → get_or l p 0 ≢ get_or l q 0) → length rs ≤ length l → {r : ℕ} → In r rs → In r l
 cover [] (y ∷ ys) among once short m = absurd (omega arith)
@@ -74,6 +79,7 @@ cover (x ∷ l) rs among once short {r} m = go (ℕ_discrete r x) (λ n. cover l
     go : Dec (r ≡ x) → (r ≢ x → In r l) → In r (x ∷ l)
     go (yes e) f = here e
     go (no n) f = there (f n)
+cover [] [] among once short {r = r} m = elim m [ ]
 
 pub no_longer : {rs : List ℕ} → Pairs ◌≢◌ rs → (l : List ℕ) → ((r : ℕ) → In r rs → In r l) → length rs ≤ length l
 no_longer nil l h = omega arith

@@ -146,7 +146,7 @@ module _ {A : Type 0} where
   get_d_in (x ∷ l) d (suc i) h = there (get_d_in l d i (omega arith))
 
   -- a member stands at a position
-  pub in_at : {l : List A} (d : A) {y : A} → In y l → (i : ℕ) × (i < length l) × (get_or l i d ≡ y)
+  pub in_at : {y : A} {l : List A} (d : A) → In y l → (i : ℕ) × (i < length l) × (get_or l i d ≡ y)
   in_at d (here e) = (0, omega arith, sym e)
   in_at d (there m) = let k = in_at d m in (suc k.0, omega (arith, k.1), k.2)
 
@@ -172,8 +172,10 @@ module _ {A : Type 0} where
       among : (n : ℕ) (l : List A) {y : A} → In y (take n l) → In y l
       among (suc n) (x ∷ l) (here e) = here e
       among (suc n) (x ∷ l) (there m) = there (among n l m)
+      among zero _ {y = y} x3 = elim x3 [ ]
+      among (suc n) [] {y = y} x5 = elim x5 [ ]
 
   pub pairs_from : {R : A → A → Type 0} {l : List A} → Pairs R l → (n : ℕ) → Pairs R (drop n l)
   pairs_from p zero = p
   pairs_from nil (suc n) = nil
-  pairs_from (cons u t) (suc n) = pairs_from t n
+  pairs_from {R = R} (cons {x = x} {l = l} u t) (suc n) = pairs_from {l = l} t n

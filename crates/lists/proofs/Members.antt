@@ -21,6 +21,7 @@ module _ {A : Type 0} where
       go true e (here q) ih = (here q, ap p q ∙ e)
       go true e (there k) ih = (there (ih k).0, (ih k).1)
       go false e k ih = (there (ih k).0, (ih k).1)
+  in_keep p [] {y = y} m = elim m [ ]
 
   -- a list all of which passes is kept whole
   pub keep_all : (p : A → Bool) (l : List A) → ((x : A) → In x l → p x ≡ true) → keep p l ≡ l
@@ -36,6 +37,7 @@ module _ {A : Type 0} where
       go : (b : Bool) → In y (keep p l) → In y (put b x (keep p l))
       go true m = there m
       go false m = m
+  keep_in p [] {y = y} x'' h = elim x'' [ ]
 
   -- tests that agree on the members keep the same, find the same, and answer the same
   module _ (p q : A → Bool) where
@@ -95,6 +97,7 @@ module _ {A : Type 0} where
     unfolding first
     nothing_none (y ∷ l) e x (here q) = ap p q ∙ (nothing_cons (p y) (key y) (first key p l) e).0
     nothing_none (y ∷ l) e x (there m) = nothing_none l (nothing_cons (p y) (key y) (first key p l) e).1 x m
+    nothing_none [] e x x4 = elim x4 [ ]
 
     pub none_nothing : (l : List A) → ((x : A) → In x l → p x ≡ false) → first key p l ≡ Nothing
     unfolding first

@@ -29,6 +29,7 @@ module _ {A : Type 0} where
     pairs_find (cons u t) (here e) (there n) d = inl (rw e (u _ n))
     pairs_find (cons u t) (there m) (here f) d = inr (rw f (u _ m))
     pairs_find (cons u t) (there m) (there n) d = pairs_find t m n d
+    pairs_find nil {y = y} x10 _ d = elim x10 [ ]
 
     pub pairs_keep : (p : A → Bool) {l : List A} → Pairs R l → Pairs R (keep p l)
     unfolding keep put
@@ -60,6 +61,7 @@ module _ {A : Type 0} where
     pub pairs_across : (a : List A) {b : List A} → Pairs R (a ++ b) → (x y : A) → In x a → In y b → R x y
     pairs_across (z ∷ a) (cons u t) x y (here e) n = rw e (u y (Memᴰ.append_right a n))
     pairs_across (z ∷ a) (cons u t) x y (there m) n = pairs_across a t x y m n
+    pairs_across [] {b = b} _ x y x6 n = elim x6 [ ]
 
     pub pairs_map : {S : A → A → Type 0} {l : List A} → Pairs R l → ((x y : A) → In x l → In y l → R x y → S x y) → Pairs S l
     pairs_map nil h = nil

@@ -28,6 +28,7 @@ in_from : (i n q : ℕ) → In q (from i n) → (i ≤ q) × (q < i + n)
 unfolding from
 in_from i (suc n) q (here e) = omega arith
 in_from i (suc n) q (there m) = let h = in_from (suc i) n q m in omega arith
+in_from i zero q x' = elim x' [ ]
 
 pub below_in : (n : ℕ) {q : ℕ} → q < n → In q (up_to n)
 below_in n {q} h = from_in 0 n q (omega arith) (omega arith)

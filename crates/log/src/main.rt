@@ -1,4 +1,6 @@
 // Reads a log with named columns from standard input and prints the report of its table. A longer log than 1 MiB is not reported in part.
+#![tactic(auto)]
+
 ghost use Rattle.std.specs.Prelude.{◌≡◌, length};
 
 const LONGEST: usize = 1048576;

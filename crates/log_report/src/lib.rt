@@ -1,4 +1,6 @@
 // The report of a log with named columns.
+#![tactic(auto)]
+
 ghost use Rattle.std.specs.Prelude.{ℕ};
 ghost use Rattle.log_tables.specs.Logs.{log_table};
 ghost use Rattle.summary.specs.Summary.{Meant};

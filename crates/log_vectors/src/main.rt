@@ -1,5 +1,7 @@
 // Logs with known tables and clock texts with known stamps, executed: a line for each call, name,code,row,rows,trials, and where a table was lent
 // a line with it after the call; of a text that is read the text and its stamp; held to the file stdout.
+#![tactic(auto)]
+
 use libc::STDOUT_FILENO;
 use parsing::Number;
 

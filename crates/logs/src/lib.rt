@@ -1,4 +1,6 @@
 // Logs with named columns, loaded into a table. A refused call leaves the table as it was.
+#![tactic(auto)]
+
 ghost use Rattle.std.specs.Prelude.{◌≡◌, cond, not, ◌++◌, ◌+◌, ◌*◌, ◌≤◌, eqb, length, drop};
 ghost use Rattle.std.proofs.lemmas.List.Edits.{sets};
 ghost use Rattle.lists.specs.declared.Found.TheVariants.{At, Nothing};
@@ -18,7 +20,7 @@ use lists::Found;
 use parsing::Number;
 
 // A line that was walked: its row, the count of its cells, where it ends, and its first cell that cannot be read.
-#[derive(Drop)]
+#[derive(Clone, Copy)]
 pub struct Line {
     row: Row,
     count: usize,

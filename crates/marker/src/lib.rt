@@ -1,4 +1,6 @@
 // The marking call: tests 1 to 10, and then the method of the question over the register's prepared history.
+#![tactic(auto)]
+
 ghost use Rattle.std.specs.Prelude.{◌≡◌, List, ℕ, ◌≤◌, length};
 ghost use Rattle.history.specs.Table.{rows_of, history, Alike, largest_count, row_count};
 ghost use Rattle.history.specs.Answer.{first_met, passed};

@@ -1,4 +1,6 @@
 // The mark alone: the marking call with a list inside that has a place for each row of the table, so that no list is too short.
+#![tactic(auto)]
+
 ghost use Rattle.std.specs.Prelude.{◌≡◌, ◌≢◌};
 ghost use Rattle.history.specs.Answer.{number, short_list};
 ghost use Rattle.marks.specs.Marks.{answer_to, Ample, Said};

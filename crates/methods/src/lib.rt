@@ -1,9 +1,11 @@
 // The zone of a cluster, by value. The definitions of the methods stand in specs/, the histories with known marks in proofs/.
+#![tactic(auto)]
+
 ghost use Rattle.std.specs.Prelude.{◌≡◌};
 ghost use Rattle.methods.specs.Zones.{low, high, forward};
 
 // A zone, from the smallest finish and the largest start of its cluster.
-#[derive(Drop)]
+#[derive(Clone, Copy)]
 pub struct Zone {
     pub finish: u64,
     pub start: u64,

@@ -1,4 +1,6 @@
 // The order check: a list of row numbers, held to the register's operations position by position.
+#![tactic(auto)]
+
 ghost use Rattle.std.specs.Prelude.{◌≡◌, ◌↔◌, not, ◌&&◌, ◌||◌, List, map, ℕ, ◌%◌, ◌<◌, ◌≤◌, ltb, length, get_or};
 ghost use Rattle.lists.specs.Lists.{one_if};
 ghost use Rattle.history.specs.Table.{largest_count, row_count, op_at, history, Alike};
@@ -13,7 +15,7 @@ use history::{Answer, Op, Row};
 use lists::Found;
 
 // What may be wrong with a position.
-#[derive(Drop)]
+#[derive(Clone, Copy)]
 enum Fault {
     Misfit,
     Late,

@@ -1,17 +1,19 @@
 // Numbers read out of decimal text: one, and a list of them, one a line.
+#![tactic(auto)]
+
 ghost use Rattle.std.specs.Prelude.{◌≡◌, [], ◌∷◌, ◌+◌, length, drop};
 ghost use Rattle.std.proofs.lemmas.List.Edits.{sets};
 ghost use Rattle.parsing.specs.Numbers.{says, number_of, number_in, front, sound, leading, lines_in, counted, stored};
 
 // What a text says as a number of 64 bits.
-#[derive(Drop)]
+#[derive(Clone, Copy)]
 pub enum Number {
     Is(u64),
     Nothing,
 }
 
 // How many numbers were read, or that the text is no list of numbers.
-#[derive(Drop)]
+#[derive(Clone, Copy)]
 pub enum Count {
     Read(usize),
     NoList,

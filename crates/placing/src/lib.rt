@@ -1,4 +1,6 @@
 // The placing step over the columns of a prepared history: marks on positions, and an order that is filled from the back.
+#![tactic(auto)]
+
 ghost use Rattle.std.specs.Prelude.{◌≡◌, ℕ, ◌<◌, length};
 ghost use Rattle.history.specs.Table.{largest_count};
 ghost use Rattle.positions.specs.Columns.{Cols, cols, Linked, Shaped, Sound};
@@ -10,7 +12,7 @@ ghost use Rattle.placing.specs.Stepped.{Stepped};
 
 // What a scan or a step gives beside the lent marks and order, in which what is placed is marked and stands from `at` on, while nothing from `top` on
 // is left to place: also the write that it asks for plus one, 0 for none.
-#[derive(Drop)]
+#[derive(Clone, Copy)]
 pub struct Front {
     pub at: usize,
     pub top: usize,
@@ -20,7 +22,7 @@ pub struct Front {
 
 // What a search found: no order, after so many trials; an order, which stands in the lent one from the first place to the second, after so many
 // trials; or that the allowance was used up.
-#[derive(Drop)]
+#[derive(Clone, Copy)]
 pub enum Search {
     Stale(u64),
     Fresh(usize, usize, u64),

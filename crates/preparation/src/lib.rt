@@ -1,1 +1,2 @@
 // Pure mathematics: no code. The theorems stand in proofs/.
+#![tactic(auto)]

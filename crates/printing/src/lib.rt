@@ -1,4 +1,6 @@
 // Texts at the front of a lent buffer: the line of a refused file, a header with lines of numbers, and a text that is whole already.
+#![tactic(auto)]
+
 ghost use Rattle.std.specs.Prelude.{◌≡◌, ◌++◌, ◌+◌, ◌*◌, ◌≤◌, ◌<◌, ◌^◌, length};
 ghost use Rattle.std.proofs.lemmas.List.Edits.{sets};
 ghost use Rattle.history.specs.Table.{largest_count};

@@ -1,4 +1,6 @@
 // The doubled ranks of a register's stamps, from its rows by rising time: the finishes are sorted, and merged with the starts.
+#![tactic(auto)]
+
 ghost use Rattle.std.specs.Prelude.{◌≡◌, true, ◌+◌, ◌*◌, ◌≤◌, ◌<◌, length};
 ghost use Rattle.lists.specs.Lists.{up_to};
 ghost use Rattle.lists.specs.Sorts.{sort};

@@ -1,4 +1,6 @@
 // The report of a road: the header line, and a line for each register.
+#![tactic(auto)]
+
 ghost use Rattle.std.specs.Prelude.{◌≡◌, ℕ};
 ghost use Rattle.records.specs.Records.{table_of};
 ghost use Rattle.summary.specs.Summary.{Meant};

@@ -1,4 +1,6 @@
 // Reads a history file from standard input and prints its report.
+#![tactic(auto)]
+
 fn main() {
     let mut input = [0u8; files::LONGEST];
     let got = console::take(libc::STDIN_FILENO, &mut input);

@@ -1,4 +1,6 @@
 // A whole road in one call: what the marking call answers for each of a list of registers. The rows are put by register once.
+#![tactic(auto)]
+
 ghost use Rattle.std.specs.Prelude.{◌≡◌, ℕ, ◌+◌, ◌*◌, ◌≤◌, length};
 ghost use Rattle.std.proofs.lemmas.List.Edits.{sets};
 ghost use Rattle.history.specs.Table.{largest_count, row_count};

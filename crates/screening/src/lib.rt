@@ -1,4 +1,6 @@
 // The screening of a register: tests 1, 2 and 4 to 9 of the table, each over the whole register before the next.
+#![tactic(auto)]
+
 ghost use Rattle.std.specs.Prelude.{◌≡◌, ◌↔◌, ℕ, ◌+◌, ◌*◌, ◌≤◌, List, map, length, take};
 ghost use Rattle.lists.specs.Lists.{one_if};
 ghost use Rattle.history.specs.Table.{largest_count, row_count, op_at, bears, rows_of, history, Alike};

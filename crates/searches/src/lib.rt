@@ -1,4 +1,6 @@
 // LBT over a prepared history in columns, with its candidates by falling finish; and the answer to what a search found, with the order's rows in the lent list.
+#![tactic(auto)]
+
 ghost use Rattle.std.specs.Prelude.{◌≡◌, true, ℕ, ◌≤◌, ◌<◌, length};
 ghost use Rattle.history.specs.Table.{largest_count};
 ghost use Rattle.methods.specs.Lbt.{lbt};

@@ -1,4 +1,6 @@
 // One register of a history file: a pass over the bytes that keeps the places of its records, so that no other row is read into the table.
+#![tactic(auto)]
+
 ghost use Rattle.std.specs.Prelude.{◌≡◌, ℕ, ◌+◌, ◌*◌, ◌≤◌, ◌<◌, eqb, length, get_or, take};
 ghost use Rattle.history.specs.Table.{largest_count};
 ghost use Rattle.records.specs.Records.{record_from, Stands};
@@ -89,7 +91,7 @@ fn smaller(a: usize, b: usize) -> usize
 }
 
 // How far a pass is: the next record's number and place, and how many places are kept.
-#[derive(Drop)]
+#[derive(Clone, Copy)]
 struct Reached {
     row: usize,
     at: usize,
@@ -139,7 +141,7 @@ fn pick_plain(
 }
 
 // How many records bear the register, where the file is sound.
-#[derive(Drop)]
+#[derive(Clone, Copy)]
 struct Picked {
     count: usize,
     sound: bool,

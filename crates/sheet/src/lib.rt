@@ -1,4 +1,6 @@
 // What the programs bench and exam print of a register: a heading, the answers to the three questions, the orders found, and a check of an order.
+#![tactic(auto)]
+
 ghost use Rattle.std.specs.Prelude.{◌≡◌, length, replicate};
 ghost use Rattle.marks.specs.Marks.{most_trials};
 ghost use Rattle.printing.specs.Texts.{Printed};

@@ -1,4 +1,6 @@
 // The numbers of the report: the registers of a table, ascending, and what is said of each.
+#![tactic(auto)]
+
 ghost use Rattle.std.specs.Prelude.{◌≡◌, ℕ, ◌+◌, ◌*◌, ◌≤◌, ◌<◌, length};
 ghost use mathlib.Core.List.{[], ◌∷◌, flat_map};
 ghost use Rattle.std.proofs.lemmas.List.Edits.{sets};

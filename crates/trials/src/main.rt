@@ -1,6 +1,8 @@
 // Small random histories: the mark of each question against a trial of all orders, each judged by the order check. A history that the screening
 // refuses is passed over. A line for each question counts the histories compared, those with equal stamps, those with an opening, the marks and the
 // differences; held to the file stdout.
+#![tactic(auto)]
+
 ghost use Rattle.std.specs.Prelude.{◌+◌, ◌*◌, ◌%◌, ◌<◌, ◌≤◌, length};
 
 use history::{Answer, Op, Row};
@@ -320,7 +322,7 @@ fn more(count: u64, so: bool) -> u64 {
     count
 }
 
-#[derive(Drop)]
+#[derive(Clone, Copy)]
 struct Tally {
     histories: u64,
     tied: u64,

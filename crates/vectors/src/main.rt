@@ -1,5 +1,7 @@
 // The histories with known marks of document 01, and some with an opening (02, W-207), executed: a line for each call,
 // name,code,row,rows,trials, and where a list was lent a line with the list after the call; held to the file stdout.
+#![tactic(auto)]
+
 use history::Row;
 
 const C2: [u64; 15] = [7, 1, 1, 1, 2, 7, 1, 2, 3, 4, 7, 2, 1, 5, 6];

@@ -1,1 +1,2 @@
 // Pure mathematics: no code. The definitions stand in specs/, the theorems in proofs/.
+#![tactic(auto)]

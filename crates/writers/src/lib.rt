@@ -1,4 +1,6 @@
 // The write of each of a list of rows, as a position among the rows.
+#![tactic(auto)]
+
 ghost use Rattle.std.specs.Prelude.{◌≡◌, map, ℕ, ◌≤◌, ◌<◌, length, get_or};
 ghost use Rattle.history.specs.Table.{largest_count};
 ghost use Rattle.firsts.specs.Firsts.{Firsts};

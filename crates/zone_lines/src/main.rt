@@ -1,4 +1,6 @@
 // zone_lines REGISTER: reads a history file from standard input and prints the zone list of the register.
+#![tactic(auto)]
+
 use parsing::Number;
 
 fn main() {

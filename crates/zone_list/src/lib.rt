@@ -1,4 +1,6 @@
 // The zone list of a register: for each write its row, the direction of its zone, and the recorded stamps of the zone's ends.
+#![tactic(auto)]
+
 ghost use Rattle.std.specs.Prelude.{◌≡◌, ℕ, ◌+◌, ◌*◌, ◌-◌, ◌≤◌, ◌<◌, min, max, length, get_or, take};
 ghost use mathlib.Core.List.{List, [], ◌∷◌, flat_map};
 ghost use Rattle.std.proofs.lemmas.List.Edits.{sets};

@@ -1,4 +1,6 @@
 // Question 1: the zone method, which decides from the zone list in one pass.
+#![tactic(auto)]
+
 ghost use Rattle.std.specs.Prelude.{◌≡◌, true, ℕ, ◌+◌, ◌*◌, ◌≤◌, ◌<◌, length};
 ghost use Rattle.history.specs.Table.{largest_count};
 ghost use Rattle.methods.specs.Zones.{is_one, zones};

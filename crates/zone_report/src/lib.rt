@@ -1,4 +1,6 @@
 // The zone list of a register as text: the header line, and a line for each write.
+#![tactic(auto)]
+
 ghost use Rattle.records.specs.Records.{table_of};
 ghost use Rattle.printing.specs.Texts.{Printed};
 ghost use Rattle.printing.specs.Files.{file_text};

@@ -1,4 +1,6 @@
 // The zones of a prepared history in columns, and the writes by low end.
+#![tactic(auto)]
+
 ghost use Rattle.std.specs.Prelude.{◌≡◌, ◌≤◌, ◌<◌, max, length, get_or, take};
 ghost use Rattle.zones.specs.Zones.{last_by, Ends, Lates, zone_by, writes_at, by_low, Lows};
 
