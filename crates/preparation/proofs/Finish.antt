@@ -27,6 +27,7 @@ shortened_low : (w : Op) (l : List Op) {r : Op} → In r l → shortened w l ≤
 unfolding shortened
 shortened_low w (r ∷ l) (here e) = omega (arith, least_begin (λ o. o.finish) r.finish l, ap (λ o. o.finish) e)
 shortened_low w (r ∷ l) (there m) = omega (arith, least_low (λ o. o.finish) r.finish l m)
+shortened_low w [] {r = r} x' = elim x' [ ]
 
 shortened_is : (w : Op) (l : List Op) → (shortened w l ≡ 2 * w.finish) ⊎ ((r : Op) × In r l × (shortened w l ≡ 2 * r.finish - 1))
 unfolding shortened

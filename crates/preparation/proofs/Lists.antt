@@ -23,6 +23,7 @@ module _ {A : Type 0} (R : A → A → Type 0) where
   met (cons u t) (here e) (there n) = ahead (rw e (u _ n))
   met (cons u t) (there m) (here d) = behind (rw d (u _ m))
   met (cons u t) (there m) (there n) = met t m n
+  met {y = y} nil x8 _ = elim x8 [ ]
 
 -- R between each element and every later one, by positions
 module _ {R : ℕ → ℕ → Type 0} where

@@ -33,6 +33,7 @@ perm_in p_swap (here e) = there (here e)
 perm_in p_swap (there (here e)) = here e
 perm_in p_swap (there (there i)) = there (there i)
 perm_in (p_trans p q) i = perm_in q (perm_in p i)
+perm_in p_nil i = elim i [ ]
 
 -- a symmetric relation between all elements holds in any order
 pub perm_pairs : {S : Op → Op → Type 0} → ((x y : Op) → S x y → S y x) → {l m : List Op} → Perm l m → Pairs S l → Pairs S m
@@ -99,6 +100,9 @@ listed_perm t (v ∷ w ∷ []) (there (here e)) = rw e (turned (perm_refl t) v w
 listed_perm t (v ∷ w ∷ []) (there (there (here e))) = rw e (around (perm_swap t) v w)
 listed_perm t (v ∷ w ∷ []) (there (there (there (here e)))) = rw e (turned (perm_swap t) v w)
 listed_perm t (v ∷ w ∷ x ∷ b) i = elim i [ ]
+listed_perm t [] {l = l} (there (there x9)) = elim x9 [ ]
+listed_perm t (w ∷ []) {l = l} (there (there (there (there x20)))) = elim x20 [ ]
+listed_perm t (v ∷ (w ∷ [])) {l = l} (there (there (there (there x23)))) = elim x23 [ ]
 
 -- What the positions allow is listed.
 pub allowed_listed : (t b u l : List Op) → (u ≡ t) ⊎ Swapped t u → Around u b l → In l (listed t b)

@@ -146,6 +146,7 @@ module _ (pos : Op → ℕ) where
         first : (v : Op) → v.value ≡ o.value → (l : List Op) → Falls l → ((u : Op) → In u l → pos u ≤ pos v) → In v l → of_first l o ≡ true
         first v e (u ∷ l) f t (here q) = eq-eqb _ _ (sym e ∙ ap (λ x. x.value) q)
         first v e (u ∷ l) f t (there i) = absurd (omega (arith, pairs_head f v i, t u (here refl)))
+        first v e [] f t x3 = elim x3 [ ]
 
         other : (v : Op) → Reads K v o → In v l → of_first l o ≡ true
         other v d i =
@@ -200,3 +201,4 @@ first_found (u ∷ ts) K t o m e = go (viable (back u) K) refl m (first_found ts
     go (order p) q i ih = (p, refl)
     go none q (there i) ih = ih i e
     go none q (here i) ih = absurd (not_none (sym q ∙ (ap (λ x. viable (back x) K) (sym i) ∙ e)))
+first_found [] K t o m e = elim m [ ]

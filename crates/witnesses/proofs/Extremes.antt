@@ -20,6 +20,7 @@ module _ {A : Type 0} (key : A → ℕ) where
   unfolding least
   least_low m (y ∷ l) (here e) = omega (arith, ap key e)
   least_low m (y ∷ l) (there n) = omega (arith, least_low m l n)
+  least_low m [] x3 = elim x3 [ ]
 
   pub least_is : (m : ℕ) (l : List A) → (least key m l ≡ m) ⊎ ((x : A) × In x l × (least key m l ≡ key x))
   unfolding least
@@ -48,6 +49,7 @@ module _ {A : Type 0} (key : A → ℕ) where
   unfolding greatest
   greatest_in m (y ∷ l) (here e) = omega (arith, ap key e)
   greatest_in m (y ∷ l) (there n) = omega (arith, greatest_in m l n)
+  greatest_in m [] x3 = elim x3 [ ]
 
   pub greatest_is : (m : ℕ) (l : List A) → (greatest key m l ≡ m) ⊎ ((x : A) × In x l × (greatest key m l ≡ key x))
   unfolding greatest

@@ -19,6 +19,8 @@ use Rattle.witnesses.proofs.Runs.{run_append}
 take_more : (k : ℕ) (s t : List ℕ) {a : ℕ} → In a (take k s) → In a (take k (s ++ t))
 take_more (suc k) (x ∷ s) t (here e) = here e
 take_more (suc k) (x ∷ s) t (there m) = there (take_more k s t m)
+take_more Prim.Native.Nat.zero s t {a = a} x' = elim x' [ ]
+take_more (suc k) [] t {a = a} x3 = elim x3 [ ]
 
 run_more : {k : ℕ} {s e : List ℕ} {l : List Op} (t : List ℕ) → Runs k s l e → Runs k (s ++ t) l (e ++ t)
 run_more t run_nil = run_nil

@@ -29,6 +29,7 @@ named (cons u t) x y (here e) (here d) p = e ∙ sym d
 named (cons u t) x y (here e) (there n) p = absurd (u y n (sym (ap (λ o. o.row) e) ∙ p))
 named (cons u t) x y (there m) (here d) p = absurd (u x m (sym (ap (λ o. o.row) d) ∙ sym p))
 named (cons u t) x y (there m) (there n) p = named t x y m n p
+named Rattle.lists.specs.Pairs.nil x y x10 _ p = elim x10 [ ]
 
 -- Membership in the parts of a history, in numbers.
 

@@ -44,11 +44,13 @@ bef_in₂ (bef_there b) = there (bef_in₂ b)
 pub bef_pair : {x y : Op} {l : List Op} → Pairs Before l → Bef x y l → Before x y
 bef_pair (cons u t) (bef_here e m) = rw e (u _ m)
 bef_pair (cons u t) (bef_there b) = bef_pair t b
+bef_pair {y = y} Rattle.lists.specs.Pairs.nil x4 = elim x4 [ ]
 
 pub bef_place : {x y : Op} {l : List Op} → Pairs Before l → Bef x y l → place l x < place l y
 bef_place {x} {y} (cons {x = z} {l = l} u t) (bef_here e m) = omega (arith, place_head z l x e, place_tail z l y (u y m).apart)
 bef_place {x} {y} (cons {x = z} {l = l} u t) (bef_there b) =
     omega (arith, place_tail z l x (u x (bef_in b)).apart, place_tail z l y (u y (bef_in₂ b)).apart, bef_place t b)
+bef_place {x = x} {y = y} Rattle.lists.specs.Pairs.nil x4 = elim x4 [ ]
 
 -- two members are one, or one stands before the other
 pub data Compared (x y : Op) (l : List Op) : Type 0 where
@@ -66,6 +68,7 @@ compared {x} {y} (z ∷ l) (there m) (there n) = go (compared l m n)
     go (equal e) = equal e
     go (first b) = first (bef_there b)
     go (second b) = second (bef_there b)
+compared {x = x} {y = y} [] x3 _ = elim x3 [ ]
 
 -- what is in an earlier part stands before what is in a later one
 pub bef_append : {x y : Op} {a b : List Op} → In x a → In y b → Bef x y (a ++ b)

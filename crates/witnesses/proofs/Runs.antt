@@ -30,6 +30,8 @@ take_mono : (i k : ℕ) (s : List ℕ) {v : ℕ} → i ≤ k → In v (take i s)
 take_mono (suc i) zero s h m = absurd (omega arith)
 take_mono (suc i) (suc k) (x ∷ s) h (here e) = here e
 take_mono (suc i) (suc k) (x ∷ s) h (there m) = there (take_mono i k s (omega arith) m)
+take_mono zero k s {v = v} h m = elim m [ ]
+take_mono (suc i) (suc k) [] {v = v} h m = elim m [ ]
 
 -- what keeps each read within j keeps it within more
 runs_wider : {j k : ℕ} {s e : List ℕ} {l : List Op} → j ≤ k → Runs j s l e → Runs k s l e
@@ -92,6 +94,7 @@ seen_within k (x ∷ a) s v m = go (test (is_write x)) (λ t. seen_within k a t 
     new : is_write x ≡ true → (j : ℕ) → In v (take j (x.value ∷ s)) → j + write_count a ≤ k → Deep k (x ∷ a) s v
     new e (suc j) (here q) h = inl (record { front = []; by = x; back = a; split = refl; write = e; same = sym q; few = omega arith })
     new e (suc j) (there n) h = inr (j, n, omega (arith, count_write x a e))
+    new e zero x4 h = elim x4 [ ]
 
     go : (is_write x ≡ true) ⊎ (is_write x ≡ false) → ((t : List ℕ) → In v (take k (passed a t)) → Deep k a t v) → Deep k (x ∷ a) s v
     go (inl e) ih = on (new e) (ih (x.value ∷ s) (rw e at m))
