@@ -198,13 +198,11 @@ fn choose(finish: &[u64], writer: &[u64], keys: &mut [u64], falling: &mut [u64])
 
 // The writes by falling finish, at the front of the slice, with a place for the key of each operation; their number.
 pub fn falls(finish: &[u64], writer: &[u64], keys: &mut [u64], falling: &mut [u64]) -> usize
-    ghost l: { List ℕ }
-    requires writer_value { falling_of finish.now writer.now ≡ l }
     requires finish_len { length finish.now ≡ length writer.now }
     requires writer_len_bound { length writer.now ≤ largest_count }
-    requires writer_in_bounds { length writer.now ≤ length keys.old }
-    requires writer_in_bounds_2 { length writer.now ≤ length falling.old }
-    ensures { (result ≡ length l) × (take result falling.new ≡ l) }
+    requires keys_room { length writer.now ≤ length keys.old }
+    requires falling_room { length writer.now ≤ length falling.old }
+    ensures { let l = falling_of finish.now writer.now in (result ≡ length l) × (take result falling.new ≡ l) }
 {
     let m = choose(finish, writer, keys, falling);
     sorting::sort_by(keys, &mut falling[..m]);

@@ -32,20 +32,18 @@ fn sides(
     part: &mut [u64],
     order: &mut [u64],
 ) -> Search
-    ghost { Cols }
-    requires* prev_value { λ C. ⌜ cols start.now finish.now writer.now last.now prev.now ≡ C ⌝ }
-    requires* fact { λ C. ⌜ Sound C ⌝ }
-    requires* start_bound { λ C. ⌜ length start.now ≤ largest_count ⌝ }
-    requires* fact_2 { λ C. ⌜ Known C ⌝ }
-    requires* fact_3 { λ C. ⌜ Zoned C late.now ⌝ }
-    requires* forwards_value { λ C. ⌜ forwards.now ≡ forths C late.now ⌝ }
-    requires* backwards_value { λ C. ⌜ backwards.now ≡ backs C late.now ⌝ }
-    requires* start_in_bounds { λ C. ⌜ length start.now ≤ length marks.old ⌝ }
-    requires* fact_4 { λ C. ⌜ ((i : ℕ) → i < length marks.old → is_free marks.old i ≡ true) ⌝ }
-    requires* fact_5 { λ C. ⌜ Lent (length start.now) list.old turn.old placed.old part.old ⌝ }
-    requires* fact_6 { λ C. ⌜ Shut (length writer.now) placed.old ⌝ }
-    requires* start_in_bounds_2 { λ C. ⌜ length start.now ≤ length order.old ⌝ }
-    ensures* { λ C r. ⌜ ((allowance : ℕ) → Searched C allowance (λ H. untried (fzf H)) order.new r) ⌝ }
+    requires sound { Sound (cols start.now finish.now writer.now last.now prev.now) }
+    requires few { length start.now ≤ largest_count }
+    requires known { Known (cols start.now finish.now writer.now last.now prev.now) }
+    requires zoned { Zoned (cols start.now finish.now writer.now last.now prev.now) late.now }
+    requires forwards_value { forwards.now ≡ forths (cols start.now finish.now writer.now last.now prev.now) late.now }
+    requires backwards_value { backwards.now ≡ backs (cols start.now finish.now writer.now last.now prev.now) late.now }
+    requires marks_room { length start.now ≤ length marks.old }
+    requires free { (i : ℕ) → i < length marks.old → is_free marks.old i ≡ true }
+    requires lent { Lent (length start.now) list.old turn.old placed.old part.old }
+    requires shut { Shut (length writer.now) placed.old }
+    requires order_room { length start.now ≤ length order.old }
+    ensures { (allowance : ℕ) → Searched (cols start.now finish.now writer.now last.now prev.now) allowance (λ H. untried (fzf H)) order.new result }
 {
     chunking::mark_inner(finish, late, forwards, backwards, list, marks);
     joining::join(
@@ -71,23 +69,21 @@ fn search_with(
     part: &mut [u64],
     order: &mut [u64],
 ) -> Search
-    ghost { Cols }
-    requires* prev_value { λ C. ⌜ cols start.now finish.now writer.now last.now prev.now ≡ C ⌝ }
-    requires* fact { λ C. ⌜ Sound C ⌝ }
-    requires* start_bound { λ C. ⌜ length start.now ≤ largest_count ⌝ }
-    requires* fact_2 { λ C. ⌜ Known C ⌝ }
-    requires* late_value { λ C. ⌜ length late.old ≡ length start.now ⌝ }
-    requires* start_in_bounds { λ C. ⌜ length start.now ≤ length list.old ⌝ }
-    requires* start_in_bounds_2 { λ C. ⌜ length start.now ≤ length forwards.old ⌝ }
-    requires* start_in_bounds_3 { λ C. ⌜ length start.now ≤ length backwards.old ⌝ }
-    requires* start_in_bounds_4 { λ C. ⌜ length start.now ≤ length inner.old ⌝ }
-    requires* start_in_bounds_5 { λ C. ⌜ length start.now ≤ length marks.old ⌝ }
-    requires* fact_3 { λ C. ⌜ ((i : ℕ) → i < length marks.old → is_free marks.old i ≡ true) ⌝ }
-    requires* start_in_bounds_6 { λ C. ⌜ length start.now ≤ length placed.old ⌝ }
-    requires* fact_4 { λ C. ⌜ Shut (length writer.now) placed.old ⌝ }
-    requires* start_in_bounds_7 { λ C. ⌜ length start.now ≤ length part.old ⌝ }
-    requires* start_in_bounds_8 { λ C. ⌜ length start.now ≤ length order.old ⌝ }
-    ensures* { λ C r. ⌜ ((allowance : ℕ) → Searched C allowance (λ H. untried (fzf H)) order.new r) ⌝ }
+    requires sound { Sound (cols start.now finish.now writer.now last.now prev.now) }
+    requires few { length start.now ≤ largest_count }
+    requires known { Known (cols start.now finish.now writer.now last.now prev.now) }
+    requires late_value { length late.old ≡ length start.now }
+    requires list_room { length start.now ≤ length list.old }
+    requires forwards_room { length start.now ≤ length forwards.old }
+    requires backwards_room { length start.now ≤ length backwards.old }
+    requires inner_room { length start.now ≤ length inner.old }
+    requires marks_room { length start.now ≤ length marks.old }
+    requires free { (i : ℕ) → i < length marks.old → is_free marks.old i ≡ true }
+    requires placed_room { length start.now ≤ length placed.old }
+    requires shut { Shut (length writer.now) placed.old }
+    requires part_room { length start.now ≤ length part.old }
+    requires order_room { length start.now ≤ length order.old }
+    ensures { (allowance : ℕ) → Searched (cols start.now finish.now writer.now last.now prev.now) allowance (λ H. untried (fzf H)) order.new result }
 {
     // The part is written later, and has the room for the low ends until then.
     let m = zones::by_low(start, finish, writer, last, late, part, list);
@@ -121,13 +117,11 @@ fn search_few(
     prev: &[u64],
     order: &mut [u64],
 ) -> Search
-    ghost { Cols }
-    requires* prev_value { λ C. ⌜ cols start.now finish.now writer.now last.now prev.now ≡ C ⌝ }
-    requires* fact { λ C. ⌜ Sound C ⌝ }
-    requires* start_bound { λ C. ⌜ length start.now ≤ 32 ⌝ }
-    requires* fact_2 { λ C. ⌜ Known C ⌝ }
-    requires* start_in_bounds { λ C. ⌜ length start.now ≤ length order.old ⌝ }
-    ensures* { λ C r. ⌜ ((allowance : ℕ) → Searched C allowance (λ H. untried (fzf H)) order.new r) ⌝ }
+    requires sound { Sound (cols start.now finish.now writer.now last.now prev.now) }
+    requires few { length start.now ≤ 32 }
+    requires known { Known (cols start.now finish.now writer.now last.now prev.now) }
+    requires order_room { length start.now ≤ length order.old }
+    ensures { (allowance : ℕ) → Searched (cols start.now finish.now writer.now last.now prev.now) allowance (λ H. untried (fzf H)) order.new result }
 {
     let n = start.len();
     let mut late = [0u64; zones::FEW];
@@ -165,13 +159,11 @@ fn search_many(
     prev: &[u64],
     order: &mut [u64],
 ) -> Search
-    ghost { Cols }
-    requires* prev_value { λ C. ⌜ cols start.now finish.now writer.now last.now prev.now ≡ C ⌝ }
-    requires* fact { λ C. ⌜ Sound C ⌝ }
-    requires* start_bound { λ C. ⌜ length start.now ≤ largest_count ⌝ }
-    requires* fact_2 { λ C. ⌜ Known C ⌝ }
-    requires* start_in_bounds { λ C. ⌜ length start.now ≤ length order.old ⌝ }
-    ensures* { λ C r. ⌜ ((allowance : ℕ) → Searched C allowance (λ H. untried (fzf H)) order.new r) ⌝ }
+    requires sound { Sound (cols start.now finish.now writer.now last.now prev.now) }
+    requires few { length start.now ≤ largest_count }
+    requires known { Known (cols start.now finish.now writer.now last.now prev.now) }
+    requires order_room { length start.now ≤ length order.old }
+    ensures { (allowance : ℕ) → Searched (cols start.now finish.now writer.now last.now prev.now) allowance (λ H. untried (fzf H)) order.new result }
 {
     let n = start.len();
     let mut late = [0u64; Row::LARGEST_COUNT];
@@ -209,13 +201,11 @@ pub fn search(
     prev: &[u64],
     order: &mut [u64],
 ) -> Search
-    ghost { Cols }
-    requires* prev_value { λ C. ⌜ cols start.now finish.now writer.now last.now prev.now ≡ C ⌝ }
-    requires* fact { λ C. ⌜ Sound C ⌝ }
-    requires* start_bound { λ C. ⌜ length start.now ≤ largest_count ⌝ }
-    requires* fact_2 { λ C. ⌜ Known C ⌝ }
-    requires* start_in_bounds { λ C. ⌜ length start.now ≤ length order.old ⌝ }
-    ensures* { λ C r. ⌜ ((allowance : ℕ) → Searched C allowance (λ H. untried (fzf H)) order.new r) ⌝ }
+    requires sound { Sound (cols start.now finish.now writer.now last.now prev.now) }
+    requires few { length start.now ≤ largest_count }
+    requires known { Known (cols start.now finish.now writer.now last.now prev.now) }
+    requires order_room { length start.now ≤ length order.old }
+    ensures { (allowance : ℕ) → Searched (cols start.now finish.now writer.now last.now prev.now) allowance (λ H. untried (fzf H)) order.new result }
 {
     if start.len() <= zones::FEW {
         return search_few(start, finish, writer, last, prev, order);

@@ -60,19 +60,17 @@ fn chunk(
     placed: &mut [u8],
     part: &mut [u64],
 ) -> Ordered
-    ghost { Cols }
-    requires* prev_value { λ C. ⌜ cols start.now finish.now writer.now last.now prev.now ≡ C ⌝ }
-    requires* fact { λ C. ⌜ Sound C ⌝ }
-    requires* start_bound { λ C. ⌜ length start.now ≤ largest_count ⌝ }
-    requires* fact_2 { λ C. ⌜ Zoned C late.now ⌝ }
-    requires* fact_3 { λ C. ⌜ Cut C late.now run.now ⌝ }
-    requires* backwards_value { λ C. ⌜ backwards.now ≡ backs C late.now ⌝ }
-    requires* fact_4 { λ C. ⌜ Behind finish.now late.now backwards.now i (low (zone_by finish.now late.now (get_or run.now 0 0))) ⌝ }
-    requires* fact_5 { λ C. ⌜ Lent (length start.now) list.old turn.old placed.old part.old ⌝ }
-    requires* fact_6 { λ C. ⌜ Shut (length writer.now) placed.old ⌝ }
-    ensures* order { λ C r. ⌜ Chunked C run.now top part.new r.at r.failed ⌝ }
-    ensures* marks { λ C _. ⌜ Shut (length writer.now) placed.new ⌝ }
-    ensures* next { λ C r. ⌜ ((limit : ℕ) → low (zone_by finish.now late.now (get_or run.now 0 0)) ≤ limit → top ≤ limit → Behind finish.now late.now backwards.now r.next limit) ⌝ }
+    requires sound { Sound (cols start.now finish.now writer.now last.now prev.now) }
+    requires few { length start.now ≤ largest_count }
+    requires zoned { Zoned (cols start.now finish.now writer.now last.now prev.now) late.now }
+    requires cut { Cut (cols start.now finish.now writer.now last.now prev.now) late.now run.now }
+    requires backwards_value { backwards.now ≡ backs (cols start.now finish.now writer.now last.now prev.now) late.now }
+    requires behind { Behind finish.now late.now backwards.now i (low (zone_by finish.now late.now (get_or run.now 0 0))) }
+    requires lent { Lent (length start.now) list.old turn.old placed.old part.old }
+    requires shut { Shut (length writer.now) placed.old }
+    ensures order { Chunked (cols start.now finish.now writer.now last.now prev.now) run.now top part.new result.at result.failed }
+    ensures marks { Shut (length writer.now) placed.new }
+    ensures next { (limit : ℕ) → low (zone_by finish.now late.now (get_or run.now 0 0)) ≤ limit → top ≤ limit → Behind finish.now late.now backwards.now result.next limit }
 {
     let bottom = low_end(finish, late, run[0] as usize);
     let found = chunking::enclose(finish, late, backwards, i, bottom, top, list);
@@ -165,18 +163,16 @@ fn item(
     placed: &mut [u8],
     part: &mut [u64],
 ) -> Next
-    ghost { Cols }
-    requires* prev_value { λ C. ⌜ cols start.now finish.now writer.now last.now prev.now ≡ C ⌝ }
-    requires* fact { λ C. ⌜ Sound C ⌝ }
-    requires* start_bound { λ C. ⌜ length start.now ≤ largest_count ⌝ }
-    requires* fact_2 { λ C. ⌜ Zoned C late.now ⌝ }
-    requires* forwards_value { λ C. ⌜ forwards.now ≡ forths C late.now ⌝ }
-    requires* backwards_value { λ C. ⌜ backwards.now ≡ backs C late.now ⌝ }
-    requires* fact_3 { λ C. ⌜ Waiting finish.now late.now forwards.now backwards.now a j ⌝ }
-    requires* fact_4 { λ C. ⌜ Poised C late.now forwards.now backwards.now a i placed.old ⌝ }
-    requires* fact_5 { λ C. ⌜ Lent (length start.now) list.old turn.old placed.old part.old ⌝ }
-    ensures* end { λ C r. ⌜ Nexts C forwards.now backwards.now a j part.new r ⌝ }
-    ensures* poised { λ C r. ⌜ Poised C late.now forwards.now backwards.now r.forward r.inner placed.new ⌝ }
+    requires sound { Sound (cols start.now finish.now writer.now last.now prev.now) }
+    requires few { length start.now ≤ largest_count }
+    requires zoned { Zoned (cols start.now finish.now writer.now last.now prev.now) late.now }
+    requires forwards_value { forwards.now ≡ forths (cols start.now finish.now writer.now last.now prev.now) late.now }
+    requires backwards_value { backwards.now ≡ backs (cols start.now finish.now writer.now last.now prev.now) late.now }
+    requires waiting { Waiting finish.now late.now forwards.now backwards.now a j }
+    requires poised { Poised (cols start.now finish.now writer.now last.now prev.now) late.now forwards.now backwards.now a i placed.old }
+    requires lent { Lent (length start.now) list.old turn.old placed.old part.old }
+    ensures end { Nexts (cols start.now finish.now writer.now last.now prev.now) forwards.now backwards.now a j part.new result }
+    ensures still_poised { Poised (cols start.now finish.now writer.now last.now prev.now) late.now forwards.now backwards.now result.forward result.inner placed.new }
 {
     if chunk_first(finish, late, forwards, backwards, a, j) {
         let span = chunking::run(finish, late, forwards, a);
@@ -233,20 +229,18 @@ pub fn join(
     part: &mut [u64],
     order: &mut [u64],
 ) -> Search
-    ghost { Cols }
-    requires* prev_value { λ C. ⌜ cols start.now finish.now writer.now last.now prev.now ≡ C ⌝ }
-    requires* fact { λ C. ⌜ Sound C ⌝ }
-    requires* start_bound { λ C. ⌜ length start.now ≤ largest_count ⌝ }
-    requires* fact_2 { λ C. ⌜ Known C ⌝ }
-    requires* fact_3 { λ C. ⌜ Zoned C late.now ⌝ }
-    requires* forwards_value { λ C. ⌜ forwards.now ≡ forths C late.now ⌝ }
-    requires* backwards_value { λ C. ⌜ backwards.now ≡ backs C late.now ⌝ }
-    requires* start_in_bounds { λ C. ⌜ length start.now ≤ length marks.now ⌝ }
-    requires* fact_4 { λ C. ⌜ Hangs finish.now late.now forwards.now backwards.now marks.now ⌝ }
-    requires* fact_5 { λ C. ⌜ Lent (length start.now) list.old turn.old placed.old part.old ⌝ }
-    requires* fact_6 { λ C. ⌜ Shut (length writer.now) placed.old ⌝ }
-    requires* start_in_bounds_2 { λ C. ⌜ length start.now ≤ length order.old ⌝ }
-    ensures* { λ C r. ⌜ ((allowance : ℕ) → Searched C allowance (λ H. untried (fzf H)) order.new r) ⌝ }
+    requires sound { Sound (cols start.now finish.now writer.now last.now prev.now) }
+    requires few { length start.now ≤ largest_count }
+    requires known { Known (cols start.now finish.now writer.now last.now prev.now) }
+    requires zoned { Zoned (cols start.now finish.now writer.now last.now prev.now) late.now }
+    requires forwards_value { forwards.now ≡ forths (cols start.now finish.now writer.now last.now prev.now) late.now }
+    requires backwards_value { backwards.now ≡ backs (cols start.now finish.now writer.now last.now prev.now) late.now }
+    requires start_in_bounds { length start.now ≤ length marks.now }
+    requires hangs { Hangs finish.now late.now forwards.now backwards.now marks.now }
+    requires lent { Lent (length start.now) list.old turn.old placed.old part.old }
+    requires shut { Shut (length writer.now) placed.old }
+    requires order_room { length start.now ≤ length order.old }
+    ensures { (allowance : ℕ) → Searched (cols start.now finish.now writer.now last.now prev.now) allowance (λ H. untried (fzf H)) order.new result }
 {
     let mut m: usize = 0;
     let mut a: usize = 0;

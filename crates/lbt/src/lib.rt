@@ -59,12 +59,10 @@ fn epoch(
     top: usize,
     w: usize,
 ) -> Trial
-    ghost g: { Cols × State }
-    requires top_value { (cols start.now finish.now writer.now last.now prev.now, state_of placed.old order.old at top) ≡ g }
-    requires sound { Sound g.0 }
-    requires holds { Holds g.0 g.1 }
-    requires whose { Whose g.0.writer g.1 w }
-    ensures { Ran g.0 w g.1 placed.new order.new result }
+    requires sound { Sound (cols start.now finish.now writer.now last.now prev.now) }
+    requires holds { Holds (cols start.now finish.now writer.now last.now prev.now) (state_of placed.old order.old at top) }
+    requires whose { Whose writer.now (state_of placed.old order.old at top) w }
+    ensures { Ran (cols start.now finish.now writer.now last.now prev.now) w (state_of placed.old order.old at top) placed.new order.new result }
 {
     let mut a = at;
     let mut k = top;
@@ -157,16 +155,14 @@ fn round(
     allowance: u64,
     trials: u64,
 ) -> Turn
-    ghost g: { Cols × State }
-    requires top_value { (cols start.now finish.now writer.now last.now prev.now, state_of placed.old order.old at top) ≡ g }
-    requires sound { Sound g.0 }
-    requires holds { Holds g.0 g.1 }
-    requires falling_value { falling.now ≡ by_finish g.0 }
-    requires lowest { Lowest g.0 g.1 low }
+    requires sound { Sound (cols start.now finish.now writer.now last.now prev.now) }
+    requires holds { Holds (cols start.now finish.now writer.now last.now prev.now) (state_of placed.old order.old at top) }
+    requires falling_value { falling.now ≡ by_finish (cols start.now finish.now writer.now last.now prev.now) }
+    requires lowest { Lowest (cols start.now finish.now writer.now last.now prev.now) (state_of placed.old order.old at top) low }
     requires low_in_bounds { low ≤ length start.now }
     requires skipped { Skipped falling.now placed.old from }
     requires trials_le_allowance { trials ≤ allowance }
-    ensures { Turned g.0 g.1 trials allowance placed.new order.new result }
+    ensures { Turned (cols start.now finish.now writer.now last.now prev.now) (state_of placed.old order.old at top) trials allowance placed.new order.new result }
 {
     let newest = start[low - 1];
     let n = falling.len();
@@ -207,15 +203,13 @@ pub fn search(
     placed: &mut [u8],
     order: &mut [u64],
 ) -> Search
-    ghost { Cols }
-    requires* prev_value { λ C. ⌜ cols start.now finish.now writer.now last.now prev.now ≡ C ⌝ }
-    requires* fact { λ C. ⌜ Sound C ⌝ }
-    requires* falling_value { λ C. ⌜ falling.now ≡ by_finish C ⌝ }
-    requires* start_bound { λ C. ⌜ length start.now ≤ largest_count ⌝ }
-    requires* start_in_bounds { λ C. ⌜ length start.now ≤ length placed.old ⌝ }
-    requires* fact_2 { λ C. ⌜ ((i : ℕ) → i < length placed.old → is_free placed.old i ≡ true) ⌝ }
-    requires* start_in_bounds_2 { λ C. ⌜ length start.now ≤ length order.old ⌝ }
-    ensures* { λ C r. ⌜ Searched C allowance (λ H. walked (lbt H)) order.new r ⌝ }
+    requires sound { Sound (cols start.now finish.now writer.now last.now prev.now) }
+    requires falling_value { falling.now ≡ by_finish (cols start.now finish.now writer.now last.now prev.now) }
+    requires few { length start.now ≤ largest_count }
+    requires placed_room { length start.now ≤ length placed.old }
+    requires free { (i : ℕ) → i < length placed.old → is_free placed.old i ≡ true }
+    requires order_room { length start.now ≤ length order.old }
+    ensures { Searched (cols start.now finish.now writer.now last.now prev.now) allowance (λ H. walked (lbt H)) order.new result }
 {
     let to = order.len();
     let mut at = to;

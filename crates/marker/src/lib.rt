@@ -74,17 +74,15 @@ fn search(
     allowance: u64,
     order: &mut [u64],
 ) -> Search
-    ghost { Cols }
-    requires* prev_value { λ C. ⌜ cols start.now finish.now writer.now last.now prev.now ≡ C ⌝ }
-    requires* fact { λ C. ⌜ Sound C ⌝ }
-    requires* start_bound { λ C. ⌜ length start.now ≤ largest_count ⌝ }
-    requires* fact_2 { λ C. ⌜ Known C ⌝ }
-    requires* start_in_bounds { λ C. ⌜ length start.now ≤ length order.old ⌝ }
-    requires* fact_3 { λ C. ⌜ Made table.now rows.now C ⌝ }
-    requires* fact_4 { λ C. ⌜ ((register : ℕ) × Listed table.now register rows.now) ⌝ }
-    requires* rows_bound { λ C. ⌜ length rows.now ≤ largest_count ⌝ }
-    requires* rows_in_bounds { λ C. ⌜ length rows.now ≤ length order.old ⌝ }
-    ensures* { λ C r. ⌜ Searched C allowance (method question) order.new r ⌝ }
+    requires sound { Sound (cols start.now finish.now writer.now last.now prev.now) }
+    requires few { length start.now ≤ largest_count }
+    requires known { Known (cols start.now finish.now writer.now last.now prev.now) }
+    requires order_room { length start.now ≤ length order.old }
+    requires made { Made table.now rows.now (cols start.now finish.now writer.now last.now prev.now) }
+    requires listed { (register : ℕ) × Listed table.now register rows.now }
+    requires few_2 { length rows.now ≤ largest_count }
+    requires order_room_2 { length rows.now ≤ length order.old }
+    ensures { Searched (cols start.now finish.now writer.now last.now prev.now) allowance (method question) order.new result }
 {
     if question == ZONES {
         return zone_method::search(table, rows, start, finish, writer, last, prev, order);

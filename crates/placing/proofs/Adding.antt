@@ -58,6 +58,7 @@ marks_in v p (i ∷ l) j (there m) h = go (test (eqb j i)) (marks_in v p l j m h
         let n : i < length (marks_with v p l) = omega (arith, marks_length v p l) in
         rw e (get_or-set_same (marks_with v p l) i v 0 n)
     go (inr d) k = get_or-set_other (marks_with v p l) i j v 0 (eqb-false j i d) ∙ k
+marks_in v p [] j x'' h = elim x'' [ ]
 
 marks_out : (v : ℕ) (p l : List ℕ) (j : ℕ) → (In j l → ⊥) → get_or (marks_with v p l) j 0 ≡ get_or p j 0
 unfolding marks_with

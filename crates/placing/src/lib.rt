@@ -65,11 +65,9 @@ fn scan(
     w: u64,
     bound: u64,
 ) -> Front
-    ghost s: { State }
-    requires top_value { state_of placed.old order.old at top ≡ s }
     requires shaped { Shaped start.now writer.now }
-    requires ready { Ready (length start.now) s }
-    ensures { Scanned start.now writer.now w bound s (tried_of placed.new order.new result) }
+    requires ready { Ready (length start.now) (state_of placed.old order.old at top) }
+    ensures { Scanned start.now writer.now w bound (state_of placed.old order.old at top) (tried_of placed.new order.new result) }
 {
     let mut a = at;
     let mut k = top;
@@ -154,12 +152,10 @@ pub fn step(
     top: usize,
     w: usize,
 ) -> Front
-    ghost g: { Cols × State }
-    requires top_value { (cols start.now finish.now writer.now last.now prev.now, state_of placed.old order.old at top) ≡ g }
-    requires sound { Sound g.0 }
-    requires holds { Holds g.0 g.1 }
-    requires whose { Whose g.0.writer g.1 w }
-    ensures { Stepped g.0 w g.1 (tried_of placed.new order.new result) }
+    requires sound { Sound (cols start.now finish.now writer.now last.now prev.now) }
+    requires holds { Holds (cols start.now finish.now writer.now last.now prev.now) (state_of placed.old order.old at top) }
+    requires whose { Whose writer.now (state_of placed.old order.old at top) w }
+    ensures { Stepped (cols start.now finish.now writer.now last.now prev.now) w (state_of placed.old order.old at top) (tried_of placed.new order.new result) }
 {
     let bound = finish[w];
     let seen = scan(start, writer, placed, order, at, top, w as u64, bound);

@@ -28,6 +28,7 @@ places_apart P (suc n) = go (P n) (places_apart P n)
   where
     other : (x y : ℕ) → In x (upto P n) → In y (n ∷ []) → x ≢ y
     other x y m (here e) q = omega (arith, (in_upto P n m).0, e, q)
+    other x y m (mathlib.Core.List.Memᴰ.tail x6) q = elim x6 [ ]
 
     go : (b : Bool) → Pairs Unlike (upto P n) → Pairs Unlike (pick_list b (upto P n ++ (n ∷ [])) (upto P n))
     go true h = pairs_append h (pairs_one n) other

@@ -96,10 +96,12 @@ in_upto P (suc n) {j} m = go (P n) refl m (in_upto P n)
     step : P n ≡ true → In j (upto P n) ⊎ In j (n ∷ []) → (In j (upto P n) → (j < n) × (P j ≡ true)) → (j < suc n) × (P j ≡ true)
     step e (inl k) ih = (omega (arith, (ih k).0), (ih k).1)
     step e (inr (here q)) ih = (omega arith, rw q e)
+    step e (inr (Memᴰ.tail x7)) ih = elim x7 [ ]
 
     go : (b : Bool) → P n ≡ b → In j (pick_list b (upto P n ++ (n ∷ [])) (upto P n)) → (In j (upto P n) → (j < n) × (P j ≡ true)) → (j < suc n) × (P j ≡ true)
     go true e k ih = step e (Memᴰ.append_cases (upto P n) k) ih
     go false e k ih = (omega (arith, (ih k).0), (ih k).1)
+in_upto P zero {j = j} m = elim m [ ]
 
 -- each position is in one of two parts
 pub upto_parts : (P Q : ℕ → Bool) (n : ℕ) → length (upto (and P Q) n) + length (upto (and P (λ j. not (Q j))) n) ≡ length (upto P n)

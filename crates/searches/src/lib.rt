@@ -28,15 +28,13 @@ fn walk_with(
     placed: &mut [u8],
     order: &mut [u64],
 ) -> Search
-    ghost { Cols }
-    requires* prev_value { λ C. ⌜ cols start.now finish.now writer.now last.now prev.now ≡ C ⌝ }
-    requires* fact { λ C. ⌜ Sound C ⌝ }
-    requires* start_bound { λ C. ⌜ length start.now ≤ largest_count ⌝ }
-    requires* writer_in_bounds { λ C. ⌜ length writer.now ≤ length falling.old ⌝ }
-    requires* start_in_bounds { λ C. ⌜ length start.now ≤ length placed.old ⌝ }
-    requires* fact_2 { λ C. ⌜ ((i : ℕ) → i < length placed.old → is_free placed.old i ≡ true) ⌝ }
-    requires* start_in_bounds_2 { λ C. ⌜ length start.now ≤ length order.old ⌝ }
-    ensures* { λ C r. ⌜ Searched C allowance (λ H. walked (lbt H)) order.new r ⌝ }
+    requires sound { Sound (cols start.now finish.now writer.now last.now prev.now) }
+    requires few { length start.now ≤ largest_count }
+    requires falling_room { length writer.now ≤ length falling.old }
+    requires placed_room { length start.now ≤ length placed.old }
+    requires free { (i : ℕ) → i < length placed.old → is_free placed.old i ≡ true }
+    requires order_room { length start.now ≤ length order.old }
+    ensures { Searched (cols start.now finish.now writer.now last.now prev.now) allowance (λ H. walked (lbt H)) order.new result }
 {
     // The order is written later, and has the room for the keys until then.
     let m = columns::falls(finish, writer, order, falling);
@@ -63,12 +61,10 @@ fn walk_few(
     allowance: u64,
     order: &mut [u64],
 ) -> Search
-    ghost { Cols }
-    requires* prev_value { λ C. ⌜ cols start.now finish.now writer.now last.now prev.now ≡ C ⌝ }
-    requires* fact { λ C. ⌜ Sound C ⌝ }
-    requires* start_bound { λ C. ⌜ length start.now ≤ 32 ⌝ }
-    requires* start_in_bounds { λ C. ⌜ length start.now ≤ length order.old ⌝ }
-    ensures* { λ C r. ⌜ Searched C allowance (λ H. walked (lbt H)) order.new r ⌝ }
+    requires sound { Sound (cols start.now finish.now writer.now last.now prev.now) }
+    requires few { length start.now ≤ 32 }
+    requires order_room { length start.now ≤ length order.old }
+    ensures { Searched (cols start.now finish.now writer.now last.now prev.now) allowance (λ H. walked (lbt H)) order.new result }
 {
     let mut falling = [0u64; FEW];
     let mut placed = [0u8; FEW];
@@ -95,12 +91,10 @@ fn walk_many(
     allowance: u64,
     order: &mut [u64],
 ) -> Search
-    ghost { Cols }
-    requires* prev_value { λ C. ⌜ cols start.now finish.now writer.now last.now prev.now ≡ C ⌝ }
-    requires* fact { λ C. ⌜ Sound C ⌝ }
-    requires* start_bound { λ C. ⌜ length start.now ≤ largest_count ⌝ }
-    requires* start_in_bounds { λ C. ⌜ length start.now ≤ length order.old ⌝ }
-    ensures* { λ C r. ⌜ Searched C allowance (λ H. walked (lbt H)) order.new r ⌝ }
+    requires sound { Sound (cols start.now finish.now writer.now last.now prev.now) }
+    requires few { length start.now ≤ largest_count }
+    requires order_room { length start.now ≤ length order.old }
+    ensures { Searched (cols start.now finish.now writer.now last.now prev.now) allowance (λ H. walked (lbt H)) order.new result }
 {
     let mut falling = [0u64; Row::LARGEST_COUNT];
     let mut placed = [0u8; Row::LARGEST_COUNT];
@@ -127,12 +121,10 @@ pub fn walk(
     allowance: u64,
     order: &mut [u64],
 ) -> Search
-    ghost { Cols }
-    requires* prev_value { λ C. ⌜ cols start.now finish.now writer.now last.now prev.now ≡ C ⌝ }
-    requires* fact { λ C. ⌜ Sound C ⌝ }
-    requires* start_bound { λ C. ⌜ length start.now ≤ largest_count ⌝ }
-    requires* start_in_bounds { λ C. ⌜ length start.now ≤ length order.old ⌝ }
-    ensures* { λ C r. ⌜ Searched C allowance (λ H. walked (lbt H)) order.new r ⌝ }
+    requires sound { Sound (cols start.now finish.now writer.now last.now prev.now) }
+    requires few { length start.now ≤ largest_count }
+    requires order_room { length start.now ≤ length order.old }
+    ensures { Searched (cols start.now finish.now writer.now last.now prev.now) allowance (λ H. walked (lbt H)) order.new result }
 {
     if start.len() <= FEW {
         return walk_few(start, finish, writer, last, prev, allowance, order);

@@ -142,16 +142,14 @@ fn put_zones(
     places: &[u64],
     list: &mut [u64],
 )
-    ghost { ℕ → List ℕ }
-    requires* late_value { λ N. ⌜ numbers_at table.now rows.now finish.now writer.now late.now ≡ N ⌝ }
-    requires* fact { λ N. ⌜ Fit table.now rows.now ⌝ }
-    requires* writer_value { λ N. ⌜ length writer.now ≡ length rows.now ⌝ }
-    requires* fact_2 { λ N. ⌜ Linked writer.now chain.now prev.now ⌝ }
-    requires* fact_3 { λ N. ⌜ Timely table.now rows.now finish.now writer.now ⌝ }
-    requires* late_value_2 { λ N. ⌜ length late.now ≡ length rows.now ⌝ }
-    requires* fact_4 { λ N. ⌜ Writes writer.now places.now ⌝ }
-    requires* places_in_bounds { λ N. ⌜ length places.now * 4 ≤ length list.old ⌝ }
-    ensures* { λ N _. ⌜ list.new ≡ written (flat_map N places.now) list.old ⌝ }
+    requires fit { Fit table.now rows.now }
+    requires writer_value { length writer.now ≡ length rows.now }
+    requires linked { Linked writer.now chain.now prev.now }
+    requires timely { Timely table.now rows.now finish.now writer.now }
+    requires late_value_2 { length late.now ≡ length rows.now }
+    requires writes { Writes writer.now places.now }
+    requires list_room { length places.now * 4 ≤ length list.old }
+    ensures { list.new ≡ written (flat_map (numbers_at table.now rows.now finish.now writer.now late.now) places.now) list.old }
 {
     let mut i: usize = 0;
     while i < places.len() {
@@ -177,18 +175,16 @@ pub fn fill(
     places: &mut [u64],
     list: &mut [u64],
 ) -> usize
-    ghost { Cols }
-    requires* prev_value { λ C. ⌜ cols start.now finish.now writer.now chain.now prev.now ≡ C ⌝ }
-    requires* fact { λ C. ⌜ Made table.now rows.now C ⌝ }
-    requires* fact_2 { λ C. ⌜ ((register : ℕ) × Listed table.now register rows.now) ⌝ }
-    requires* late_value { λ C. ⌜ length late.old ≡ length rows.now ⌝ }
-    requires* places_value { λ C. ⌜ length places.old ≡ length rows.now ⌝ }
-    requires* rows_in_bounds { λ C. ⌜ length rows.now ≤ length low.old ⌝ }
-    requires* rows_bound { λ C. ⌜ length rows.now ≤ largest_count ⌝ }
-    ensures* r_in_bounds { λ C r. ⌜ r ≤ length rows.now ⌝ }
-    ensures* fact_3 { λ C r. ⌜ Zoned C late.new ⌝ }
-    ensures* places_after { λ C r. ⌜ take r places.new ≡ by_low finish.now late.new writer.now ⌝ }
-    ensures* fact_4 { λ C r. ⌜ OfRows table.now rows.now r list.old list.new ⌝ }
+    requires made { Made table.now rows.now (cols start.now finish.now writer.now chain.now prev.now) }
+    requires listed { (register : ℕ) × Listed table.now register rows.now }
+    requires late_value { length late.old ≡ length rows.now }
+    requires places_value { length places.old ≡ length rows.now }
+    requires low_room { length rows.now ≤ length low.old }
+    requires few { length rows.now ≤ largest_count }
+    ensures r_in_bounds { result ≤ length rows.now }
+    ensures zoned { Zoned (cols start.now finish.now writer.now chain.now prev.now) late.new }
+    ensures places_after { take result places.new ≡ by_low finish.now late.new writer.now }
+    ensures of_rows { OfRows table.now rows.now result list.old list.new }
 {
     let m = zones::by_low(start, finish, writer, chain, late, low, places);
     if m * NUMBERS <= list.len() {

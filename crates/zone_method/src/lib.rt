@@ -84,13 +84,11 @@ fn lay(
     order: &mut [u64],
     at: usize,
 ) -> usize
-    ghost s: { State }
-    requires writer_value { state_of placed.old order.old at (length writer.now) ≡ s }
     requires linked { Linked writer.now last.now prev.now }
-    requires ready { Ready (length writer.now) s }
-    requires whole { Whole writer.now list.now (length list.now) s }
+    requires ready { Ready (length writer.now) (state_of placed.old order.old at (length writer.now)) }
+    requires whole { Whole writer.now list.now (length list.now) (state_of placed.old order.old at (length writer.now)) }
     requires once { Once list.now }
-    ensures { Lays writer.now list.now s (state_of placed.new order.new result s.top) }
+    ensures { let s = state_of placed.old order.old at (length writer.now) in Lays writer.now list.now s (state_of placed.new order.new result s.top) }
 {
     let mut a = at;
     let mut i = list.len();
@@ -116,17 +114,15 @@ fn settle(
     placed: &mut [u8],
     order: &mut [u64],
 ) -> Search
-    ghost { Cols }
-    requires* prev_value { λ C. ⌜ cols start.now finish.now writer.now last.now prev.now ≡ C ⌝ }
-    requires* fact { λ C. ⌜ Sound C ⌝ }
-    requires* start_bound { λ C. ⌜ length start.now ≤ largest_count ⌝ }
-    requires* fact_2 { λ C. ⌜ Says C (λ H. one ≡ is_one H) ⌝ }
-    requires* fact_3 { λ C. ⌜ Zoned C late.now ⌝ }
-    requires* list_value { λ C. ⌜ list.now ≡ by_low finish.now late.now writer.now ⌝ }
-    requires* start_in_bounds { λ C. ⌜ length start.now ≤ length placed.old ⌝ }
-    requires* fact_4 { λ C. ⌜ ((i : ℕ) → i < length placed.old → is_free placed.old i ≡ true) ⌝ }
-    requires* start_in_bounds_2 { λ C. ⌜ length start.now ≤ length order.old ⌝ }
-    ensures* { λ C r. ⌜ ((allowance : ℕ) → Searched C allowance (λ H. untried (zones H)) order.new r) ⌝ }
+    requires sound { Sound (cols start.now finish.now writer.now last.now prev.now) }
+    requires few { length start.now ≤ largest_count }
+    requires says { Says (cols start.now finish.now writer.now last.now prev.now) (λ H. one ≡ is_one H) }
+    requires zoned { Zoned (cols start.now finish.now writer.now last.now prev.now) late.now }
+    requires list_value { list.now ≡ by_low finish.now late.now writer.now }
+    requires placed_room { length start.now ≤ length placed.old }
+    requires free { (i : ℕ) → i < length placed.old → is_free placed.old i ≡ true }
+    requires order_room { length start.now ≤ length order.old }
+    ensures { (allowance : ℕ) → Searched (cols start.now finish.now writer.now last.now prev.now) allowance (λ H. untried (zones H)) order.new result }
 {
     if one {
         let to = order.len();
@@ -151,18 +147,16 @@ fn search_with(
     placed: &mut [u8],
     order: &mut [u64],
 ) -> Search
-    ghost { Cols }
-    requires* prev_value { λ C. ⌜ cols start.now finish.now writer.now chain.now prev.now ≡ C ⌝ }
-    requires* fact { λ C. ⌜ Made table.now rows.now C ⌝ }
-    requires* fact_2 { λ C. ⌜ ((register : ℕ) × Listed table.now register rows.now) ⌝ }
-    requires* rows_bound { λ C. ⌜ length rows.now ≤ largest_count ⌝ }
-    requires* late_value { λ C. ⌜ length late.old ≡ length rows.now ⌝ }
-    requires* places_value { λ C. ⌜ length places.old ≡ length rows.now ⌝ }
-    requires* rows_in_bounds { λ C. ⌜ length rows.now * 4 ≤ length list.old ⌝ }
-    requires* rows_in_bounds_2 { λ C. ⌜ length rows.now ≤ length placed.old ⌝ }
-    requires* fact_3 { λ C. ⌜ ((i : ℕ) → i < length placed.old → is_free placed.old i ≡ true) ⌝ }
-    requires* rows_in_bounds_3 { λ C. ⌜ length rows.now ≤ length order.old ⌝ }
-    ensures* { λ C r. ⌜ ((allowance : ℕ) → Searched C allowance (λ H. untried (zones H)) order.new r) ⌝ }
+    requires made { Made table.now rows.now (cols start.now finish.now writer.now chain.now prev.now) }
+    requires listed { (register : ℕ) × Listed table.now register rows.now }
+    requires few { length rows.now ≤ largest_count }
+    requires late_value { length late.old ≡ length rows.now }
+    requires places_value { length places.old ≡ length rows.now }
+    requires list_room { length rows.now * 4 ≤ length list.old }
+    requires placed_room { length rows.now ≤ length placed.old }
+    requires free { (i : ℕ) → i < length placed.old → is_free placed.old i ≡ true }
+    requires order_room { length rows.now ≤ length order.old }
+    ensures { (allowance : ℕ) → Searched (cols start.now finish.now writer.now chain.now prev.now) allowance (λ H. untried (zones H)) order.new result }
 {
     // The order is written later, and has the room for the low ends until then.
     let m = zone_list::fill(
@@ -194,13 +188,11 @@ fn search_few(
     prev: &[u64],
     order: &mut [u64],
 ) -> Search
-    ghost { Cols }
-    requires* prev_value { λ C. ⌜ cols start.now finish.now writer.now chain.now prev.now ≡ C ⌝ }
-    requires* fact { λ C. ⌜ Made table.now rows.now C ⌝ }
-    requires* fact_2 { λ C. ⌜ ((register : ℕ) × Listed table.now register rows.now) ⌝ }
-    requires* rows_bound { λ C. ⌜ length rows.now ≤ 32 ⌝ }
-    requires* rows_in_bounds { λ C. ⌜ length rows.now ≤ length order.old ⌝ }
-    ensures* { λ C r. ⌜ ((allowance : ℕ) → Searched C allowance (λ H. untried (zones H)) order.new r) ⌝ }
+    requires made { Made table.now rows.now (cols start.now finish.now writer.now chain.now prev.now) }
+    requires listed { (register : ℕ) × Listed table.now register rows.now }
+    requires few { length rows.now ≤ 32 }
+    requires order_room { length rows.now ≤ length order.old }
+    ensures { (allowance : ℕ) → Searched (cols start.now finish.now writer.now chain.now prev.now) allowance (λ H. untried (zones H)) order.new result }
 {
     let n = rows.len();
     let mut late = [0u64; zone_list::FEW];
@@ -234,13 +226,11 @@ fn search_some(
     prev: &[u64],
     order: &mut [u64],
 ) -> Search
-    ghost { Cols }
-    requires* prev_value { λ C. ⌜ cols start.now finish.now writer.now chain.now prev.now ≡ C ⌝ }
-    requires* fact { λ C. ⌜ Made table.now rows.now C ⌝ }
-    requires* fact_2 { λ C. ⌜ ((register : ℕ) × Listed table.now register rows.now) ⌝ }
-    requires* rows_bound { λ C. ⌜ length rows.now ≤ 256 ⌝ }
-    requires* rows_in_bounds { λ C. ⌜ length rows.now ≤ length order.old ⌝ }
-    ensures* { λ C r. ⌜ ((allowance : ℕ) → Searched C allowance (λ H. untried (zones H)) order.new r) ⌝ }
+    requires made { Made table.now rows.now (cols start.now finish.now writer.now chain.now prev.now) }
+    requires listed { (register : ℕ) × Listed table.now register rows.now }
+    requires few { length rows.now ≤ 256 }
+    requires order_room { length rows.now ≤ length order.old }
+    ensures { (allowance : ℕ) → Searched (cols start.now finish.now writer.now chain.now prev.now) allowance (λ H. untried (zones H)) order.new result }
 {
     let n = rows.len();
     let mut late = [0u64; zone_list::SOME];
@@ -274,13 +264,11 @@ fn search_many(
     prev: &[u64],
     order: &mut [u64],
 ) -> Search
-    ghost { Cols }
-    requires* prev_value { λ C. ⌜ cols start.now finish.now writer.now chain.now prev.now ≡ C ⌝ }
-    requires* fact { λ C. ⌜ Made table.now rows.now C ⌝ }
-    requires* fact_2 { λ C. ⌜ ((register : ℕ) × Listed table.now register rows.now) ⌝ }
-    requires* rows_bound { λ C. ⌜ length rows.now ≤ largest_count ⌝ }
-    requires* rows_in_bounds { λ C. ⌜ length rows.now ≤ length order.old ⌝ }
-    ensures* { λ C r. ⌜ ((allowance : ℕ) → Searched C allowance (λ H. untried (zones H)) order.new r) ⌝ }
+    requires made { Made table.now rows.now (cols start.now finish.now writer.now chain.now prev.now) }
+    requires listed { (register : ℕ) × Listed table.now register rows.now }
+    requires few { length rows.now ≤ largest_count }
+    requires order_room { length rows.now ≤ length order.old }
+    ensures { (allowance : ℕ) → Searched (cols start.now finish.now writer.now chain.now prev.now) allowance (λ H. untried (zones H)) order.new result }
 {
     let n = rows.len();
     let mut late = [0u64; Row::LARGEST_COUNT];
@@ -314,13 +302,11 @@ pub fn search(
     prev: &[u64],
     order: &mut [u64],
 ) -> Search
-    ghost { Cols }
-    requires* prev_value { λ C. ⌜ cols start.now finish.now writer.now chain.now prev.now ≡ C ⌝ }
-    requires* fact { λ C. ⌜ Made table.now rows.now C ⌝ }
-    requires* fact_2 { λ C. ⌜ ((register : ℕ) × Listed table.now register rows.now) ⌝ }
-    requires* rows_bound { λ C. ⌜ length rows.now ≤ largest_count ⌝ }
-    requires* rows_in_bounds { λ C. ⌜ length rows.now ≤ length order.old ⌝ }
-    ensures* { λ C r. ⌜ ((allowance : ℕ) → Searched C allowance (λ H. untried (zones H)) order.new r) ⌝ }
+    requires made { Made table.now rows.now (cols start.now finish.now writer.now chain.now prev.now) }
+    requires listed { (register : ℕ) × Listed table.now register rows.now }
+    requires few { length rows.now ≤ largest_count }
+    requires order_room { length rows.now ≤ length order.old }
+    ensures { (allowance : ℕ) → Searched (cols start.now finish.now writer.now chain.now prev.now) allowance (λ H. untried (zones H)) order.new result }
 {
     let n = rows.len();
     if n <= zone_list::FEW {
