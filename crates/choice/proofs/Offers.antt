@@ -40,6 +40,8 @@ in_back (y ∷ l) {x} m = go (Memᴰ.append_cases (backward l) m) (in_back l)
     go : In x (backward l) ⊎ In x (y ∷ []) → (In x (backward l) → In x l) → In x (y ∷ l)
     go (inl k) ih = there (ih k)
     go (inr (here e)) ih = here e
+    go (inr (there x9)) ih = elim x9 [ ]
+in_back [] {x = x} m = elim m [ ]
 
 in_swap : (b : Bool) (l : List ℕ) {x : ℕ} → In x (swap_if b l) → In x l
 unfolding swap_if
@@ -57,6 +59,7 @@ back_apart (cons {x = x} {l = l} u t) = pairs_append (back_apart t) (pairs_one x
   where
     go : (y z : ℕ) → In y (backward l) → In z (x ∷ []) → y ≢ z
     go y z m (here e) q = u y (in_back l m) (sym (q ∙ e))
+    go y z m (there x7) q = elim x7 [ ]
 
 swap_apart : (b : Bool) {l : List ℕ} → Pairs Unlike l → Pairs Unlike (swap_if b l)
 unfolding swap_if
@@ -98,6 +101,8 @@ one_back l (suc k) = refl
 in_one : (l : List ℕ) (k : ℕ) → k ≤ length l → {x : ℕ} → In x (one_at l k) → In x l
 unfolding one_at
 in_one l (suc k) h (here e) = rw e (get_d_in l 0 k (omega arith))
+in_one l zero h x4 = elim x4 [ ]
+in_one l (suc k) h (there x9) = elim x9 [ ]
 
 -- one more at the end of what is written, or nothing
 pub put_none : (l : List ℕ) (k : ℕ) (out : List ℕ) (m : ℕ) → k ≡ 0 → (m ≡ m + length (one_at l k)) × (take m out ≡ take m out ++ one_at l k)
@@ -132,6 +137,8 @@ ends_apart (cons {x = v} u (cons {x = w} {l = l} t k)) {x} {y} m n q = go (rw (m
   where
     go : In x (v ∷ []) → In y (w ∷ []) → ⊥
     go (here e) (here f) = u w (here refl) (sym e ∙ q ∙ f)
+    go (here e) (there x21) = elim x21 [ ]
+    go (there x20) _ = elim x20 [ ]
 
 ends_length : (b : List ℕ) → length (one_at b (end_at (length b) true)) + length (one_at b (end_at (length b) false)) ≤ length b
 unfolding one_at end_at

@@ -40,6 +40,7 @@ listed (x ∷ l) w (there m) = go (not (eqb w x)) (listed l w m)
     go : (b : Bool) → unlisted l w ≡ false → cond b (unlisted l w) false ≡ false
     go true e = e
     go false e = refl
+listed [] w x' = elim x' [ ]
 
 -- and back
 pub in_listed : (l : List ℕ) (w : ℕ) → unlisted l w ≡ false → In w l

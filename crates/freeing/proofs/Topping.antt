@@ -62,6 +62,7 @@ module _ (last list : List ℕ) (top : ℕ) where
 
         each : (x : ℕ) → In x (w ∷ []) → (x < r) × (get_or last x 0 ≤ r)
         each x (here e) = rw e (k.write, k.last)
+        each x (Memᴰ.tail x5) = elim x5 [ ]
 
         one : Above last (w ∷ []) t r
         one = record { bound = k.bound; each = each; least = λ n a q. let y = q w (here refl) in k.least n a y.0 y.1 }

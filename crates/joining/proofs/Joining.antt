@@ -198,6 +198,7 @@ module _ (C : Cols) (late : List ℕ) (g : Zoned C late) where
           each : (y : Item) → In y (k.whole H o).done ⊎ In y (x.item H ∷ []) → made H y ≡ order (order_of H y)
           each y (inl n) = (k.whole H o).made_all y n
           each y (inr (here e)) = rw e (x.holds.whole H o ∙ ap order (sym (made_order H (x.item H) _ (x.holds.whole H o))))
+          each y (inr (Memᴰ.tail x6)) = elim x6 [ ]
 
       -- what is written is no more than the history has
       pub join_room : Known C → m + length (drop r.at part) ≤ size C

@@ -1,0 +1,5 @@
+use Rattle.freeing.proofs.Topping.{above_both}
+use Rattle.freeing.proofs.above.Goals as goal
+
+pub returns : goal.returns
+returns c = above_both _ _ _ _ _ _ c.above_list-t.ensures c.above_list.ensures
