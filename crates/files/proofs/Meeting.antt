@@ -52,3 +52,4 @@ pub flat_no_fault : {A : Type 0} (g : A → List Test) (l : List A) → NoFault 
 unfolding flat_map
 flat_no_fault g (y ∷ l) h (here e) = rw e (no_fault_left (g y) (flat_map g l) h)
 flat_no_fault g (y ∷ l) h (there m) = flat_no_fault g l (no_fault_right (g y) (flat_map g l) h) m
+flat_no_fault {A = A} g [] h x4 = elim x4 [ ]

@@ -75,6 +75,7 @@ module _ (P : ℕ → Type 0) (cut : P 16) (strange : P 17) (over : P 2) (bs : L
   record_codes n at x (there (there (here e))) = rw e cut
   record_codes n at x (there (there (there (here e)))) = rw e strange
   record_codes n at x (there (there (there (there (here e))))) = rw e over
+  record_codes n at x (there (there (there (there (there x21))))) = elim x21 [ ]
 
   pub file_codes : (x : Test) → In x (file_tests bs) → P (number x.code)
   unfolding file_tests

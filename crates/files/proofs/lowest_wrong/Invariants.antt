@@ -1,0 +1,15 @@
+-- The loop looks at the rows in sequence: the lowest row of the whole is the lowest from here on (`Scan`).
+use Prim.Native.Nat.{◌-◌}
+use mathlib.Core.List.{map}
+use Rattle.lists.proofs.Scans.{Scan}
+use Rattle.history.specs.Table.{op_at}
+use Rattle.history.specs.Answer.{lowest_row}
+use Rattle.history.specs.Screen.{wrong_kind}
+use Rattle.files.specs.Files.{ops_of}
+use Rattle.files.proofs.lowest_wrong.Given as goal
+
+abbrev pub invariant-loop-i : goal.invariant-loop-i
+invariant-loop-i l = Scan (lowest_row wrong_kind (ops_of l.table)) (λ xs. lowest_row wrong_kind (map (op_at l.table) xs)) l.n l.i
+
+abbrev pub decreases-loop-i : goal.decreases-loop-i
+decreases-loop-i l = l.n - l.i

@@ -1,0 +1,12 @@
+-- The loop goes line by line: the lines of the whole are numbers exactly if those from here on are.
+use Prim.Native.Nat.{◌-◌}
+use mathlib.Core.Path.{◌≡◌}
+use lib.ListN.{drop}
+use Rattle.parsing.specs.Numbers.{sound}
+use Rattle.parsing.proofs.sound.Given as goal
+
+abbrev pub invariant-loop-n : goal.invariant-loop-n
+invariant-loop-n l = sound l.most l.text ≡ sound (l.most - l.n) (drop l.at l.text)
+
+abbrev pub decreases-loop-n : goal.decreases-loop-n
+decreases-loop-n l = l.most - l.n
