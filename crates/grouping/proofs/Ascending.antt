@@ -30,6 +30,7 @@ in_others x (z ∷ l) {y} m = go (eqb z x) m (in_others x l) (in_others z l)
     go true k f g = there (f k)
     go false (here e) f g = here e
     go false (there k) f g = there (g k)
+in_others x [] {y = y} m = elim m [ ]
 
 above : (x : ℕ) (l : List ℕ) → ((y : ℕ) → In y l → x ≤ y) → Pairs (λ a b. a ≤ b) l → (y : ℕ) → In y (others x l) → x < y
 unfolding others
@@ -39,6 +40,7 @@ above x (z ∷ l) h (cons f p) y m = go (eqb z x) refl m (above x l (λ w k. h w
     go true e k ih = ih y k
     go false e (here q) ih = omega (arith, q, h z (here refl), eqb-false z x e)
     go false e (there k) ih = omega (arith, f y (in_others z l k), h z (here refl), eqb-false z x e)
+above x [] h _ y m = elim m [ ]
 
 others_rise : (x : ℕ) (l : List ℕ) → Pairs (λ a b. a ≤ b) l → Pairs (λ a b. a < b) (others x l)
 unfolding others
@@ -69,6 +71,7 @@ others_in x (z ∷ l) {y} m = go (eqb z x) refl m (others_in x l) (others_in z l
     go true e (there k) f g = f k
     go false e (here q) f g = inr (here q)
     go false e (there k) f g = inr (next (g k))
+others_in x [] {y = y} m = elim m [ ]
 
 distinct_in : (l : List ℕ) {y : ℕ} → In y l → In y (distinct l)
 unfolding distinct
@@ -78,11 +81,13 @@ distinct_in (x ∷ l) {y} (there m) = go (others_in x l m)
     go : (y ≡ x) ⊎ In y (others x l) → In y (x ∷ others x l)
     go (inl e) = here e
     go (inr k) = there k
+distinct_in [] {y = y} x' = elim x' [ ]
 
 in_distinct : (l : List ℕ) {y : ℕ} → In y (distinct l) → In y l
 unfolding distinct
 in_distinct (x ∷ l) (here e) = here e
 in_distinct (x ∷ l) (there m) = there (in_others x l m)
+in_distinct [] {y = y} x' = elim x' [ ]
 
 others_few : (x : ℕ) (l : List ℕ) → length (others x l) ≤ length l
 unfolding others
