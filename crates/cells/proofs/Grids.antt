@@ -72,12 +72,14 @@ nil_free c l h x (there i) = h x i
 
 one_free : (c : ℕ) → AllFree c ([] ∷ [])
 one_free c x (here q) = rw q tt
+one_free c x (there x5) = elim x5 [ ]
 
 parts_free_longer : (c k at b : ℕ) (ps : List Part) → eqb b c ≡ false → AllFree c (bytes_of ps) → AllFree c (bytes_of (longer k at b ps))
 unfolding longer
 parts_free_longer c k at b [] e h x (here q) = rw q (e, tt)
 parts_free_longer c k at b (p ∷ ps) e h x (here q) = rw q (e, h p.bytes (here refl))
 parts_free_longer c k at b (p ∷ ps) e h x (there i) = h x (there i)
+parts_free_longer c k at b [] e h x (there i) = elim i [ ]
 
 pub parts_free : (c k at : ℕ) (t : List ℕ) → AllFree c (bytes_of (parts c k at t))
 unfolding parts
@@ -140,6 +142,7 @@ cell_in_lem (c ∷ cs) (suc j) h = there (cell_in_lem cs j (omega arith))
 pub rearranged_free : (a : ℕ) (o : List ℕ) (cs : List (List ℕ)) → ((j : ℕ) → In j o → j < length cs) → AllFree a cs → AllFree a (rearranged o cs)
 rearranged_free a (j ∷ o) cs h f x (here q) = rw q (f (get_or cs j []) (cell_in_lem cs j (h j (here refl))))
 rearranged_free a (j ∷ o) cs h f x (there i) = rearranged_free a o cs (λ y m. h y (there m)) f x i
+rearranged_free a [] cs h f x x5 = elim x5 [ ]
 
 each_from : (k : ℕ) (before cs : List (List ℕ)) → length before ≡ k → map (λ j. get_or (before ++ cs) j []) (from k (length cs)) ≡ cs
 unfolding from

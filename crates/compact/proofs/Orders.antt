@@ -22,6 +22,7 @@ one_row (cons u p) (here d) (here e) q = d ∙ sym e
 one_row (cons u p) {a} {b} (here d) (there m) q = absurd (omega (arith, u b m, ap (λ (o : Op). o.row) d))
 one_row (cons u p) {a} {b} (there m) (here e) q = absurd (omega (arith, u a m, ap (λ (o : Op). o.row) e))
 one_row (cons u p) (there m) (there n) q = one_row p m n q
+one_row Rattle.lists.specs.Pairs.nil {a = a} {b = b} x7 _ q = elim x7 [ ]
 
 module _ (f : ℕ → ℕ) where
   abbrev g : Op → Op

@@ -42,6 +42,8 @@ same_met (x ∷ xs) (y ∷ ys) a b s e = go x.fault y.fault s.0.1 (same_met xs y
     go (At r) Nothing m ih = absurd (both refl (sym m))
     go Nothing (At t) m ih = absurd (both refl m)
     go Nothing Nothing m ih = ih
+same_met [] (y ∷ ys) a b s e = elim s [ ]
+same_met (x ∷ xs) [] a b s e = elim s [ ]
 
 gone_first : {A : Type 0} (key : A → ℕ) (p : A → Bool) (l : List A) → gone (first key p l) ≡ not (any p l)
 unfolding first any

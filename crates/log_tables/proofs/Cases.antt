@@ -99,6 +99,7 @@ in_reversed : (n k : ℕ) → In k (reversed n) → k < n
 unfolding reversed
 in_reversed (suc n) k (here e) = omega arith
 in_reversed (suc n) k (there m) = omega (arith, in_reversed n k m)
+in_reversed zero k x' = elim x' [ ]
 
 reversed_in : (n k : ℕ) → k < n → In k (reversed n)
 unfolding reversed
@@ -107,6 +108,7 @@ reversed_in (suc n) k h = go (eqb k n) refl (reversed_in n k)
     go : (b : Bool) → eqb k n ≡ b → (k < n → In k (reversed n)) → In k (n ∷ reversed n)
     go true e next = here (eqb-true k n e)
     go false e next = there (next (let d = eqb-false k n e in omega arith))
+reversed_in zero k h = elim h [ ]
 
 reversed_once : (n : ℕ) → Pairs ◌≢◌ (reversed n)
 unfolding reversed

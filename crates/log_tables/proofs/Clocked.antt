@@ -85,6 +85,7 @@ module _ (c : ℕ) (low : c < 46) where
       go true = as_clock_free t (stamp_in t) (f t (here refl))
       go false = f t (here refl)
   cells_free ps k (t ∷ r) f x (there m) = cells_free ps (suc k) r (λ y i. f y (there i)) x m
+  cells_free ps k [] f x x4 = elim x4 [ ]
 
 cells_long : (ps : Columns) (k : ℕ) (r : List (List ℕ)) → length (clock_cells ps k r) ≡ length r
 unfolding clock_cells

@@ -104,6 +104,7 @@ module _ (cs ps : Columns) (c : ℕ → List ℕ) where
       go true q e (here p) next = rw p (ap is_number (sym (said_placed g (c i))) ∙ q)
       go true q e (there n) next = next e n
       go false q e m next = let z : ◌≡◌ {A = ℕ} 0 1 = cc in absurd (omega arith)
+  quiet_said k at [] g e j m = elim m [ ]
 
 -- the needed columns are among those of an order
 pub record Holds (ps : Columns) (o : List ℕ) : Type 0 where
@@ -124,6 +125,7 @@ placed_cell c p k (j ∷ o) m = go (eqb j p) refl (placed_cell c p (suc k) o)
     go false e next =
         let z : place_in (suc k) p o - k ≡ suc (place_in (suc k) p o - suc k) = omega (arith, place_above (suc k) p o) in
         rw z (next (in_rest p j o e m))
+placed_cell c p k [] m = elim m [ ]
 
 placed_said : {cs ps : Columns} (p k : ℕ) (o : List ℕ) → Places cs ps k o → In p o → (t : List ℕ) → said_in cs (place_in k p o) t ≡ said_in ps p t
 unfolding place_in
@@ -132,6 +134,7 @@ placed_said {cs} {ps} p k (j ∷ o) g m t = go (eqb j p) refl (λ n. placed_said
     go : (b : Bool) → eqb j p ≡ b → (In p o → said_in cs (place_in (suc k) p o) t ≡ said_in ps p t) → said_in cs (cond b k (place_in (suc k) p o)) t ≡ said_in ps p t
     go true e next = said_placed g t ∙ ap (λ (i : ℕ). said_in ps i t) (eqb-true j p e)
     go false e next = next (in_rest p j o e m)
+placed_said {cs = cs} {ps = ps} p k [] g m t = elim m [ ]
 
 pub number_placed : {cs ps : Columns} (o : List ℕ) → Places cs ps 0 o → (r : List (List ℕ)) (p : ℕ) → In p o
     → number_at cs (rearranged o r) (place_in 0 p o) ≡ number_at ps r p
@@ -160,6 +163,7 @@ module _ (m : List ℕ) where
           → column_from m (cond b (Only k) Missing) (laid (suc k) (suc (at + length (n j))) (map n o)) ≡ Only (cond b k (place_in (suc k) p o))
       go true e next = away n (Only k) (suc k) (suc (at + length (n j))) o (λ y x. h y (there x) ∙ ne_eqb y p (λ q. pairs_head d y x (eqb-true j p e ∙ sym q)))
       go false e next = next (in_rest p j o e i)
+  named_placed n p k at [] d i h = elim i [ ]
 
   repeated : (k at : ℕ) (hs : List (List ℕ)) → column_from m Repeated (laid k at hs) ≡ Repeated
   unfolding column_from laid more

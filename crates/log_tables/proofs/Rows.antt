@@ -85,6 +85,7 @@ module _ (bs : List ℕ) (ps : Columns) (w : ℕ) where
   lines_readable (l ∷ ls) free quiet r (here q) = rw q (line_readable l (no_fault_left (line_tests bs ps w l) (flat_map (line_tests bs ps w) ls) quiet) (free l (here refl)))
   lines_readable (l ∷ ls) free quiet r (there m) =
       lines_readable ls (λ x i. free x (there i)) (no_fault_right (line_tests bs ps w l) (flat_map (line_tests bs ps w) ls) quiet) r m
+  lines_readable [] free quiet r x3 = elim x3 [ ]
 
 pub lines_rows : (ps : Columns) (ls : List Part) → rows_of ps ls ≡ rows_table ps (map (λ l. bytes_of (cells_of l)) ls)
 unfolding flat_map
