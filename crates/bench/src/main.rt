@@ -3,27 +3,27 @@
 
 use parsing::Number;
 
-fn main() {
-    if os::arg_count() != 3 {
-        console::complain(b"usage: bench REGISTER ALLOWANCE <HISTORY\n");
+fn main(rt: HostRuntime) {
+    if !console::is_given(&rt, 2) || console::is_given(&rt, 3) {
+        console::complain(&rt, "usage: bench REGISTER ALLOWANCE <HISTORY\n");
         return;
     }
-    let Number::Is(register) = console::number(1) else {
-        console::complain(b"bench: REGISTER is not a decimal number of 64 bits\n");
+    let Number::Is(register) = console::number(&rt, 1) else {
+        console::complain(&rt, "bench: REGISTER is not a decimal number of 64 bits\n");
         return;
     };
-    let Number::Is(allowance) = console::number(2) else {
-        console::complain(b"bench: ALLOWANCE is not a decimal number of 64 bits\n");
+    let Number::Is(allowance) = console::number(&rt, 2) else {
+        console::complain(&rt, "bench: ALLOWANCE is not a decimal number of 64 bits\n");
         return;
     };
     let mut input = [0u8; files::LONGEST];
-    let got = console::take(libc::STDIN_FILENO, &mut input);
+    let got = console::take(&mut rt.reader(), &mut input);
     if !got.sound {
-        console::complain(b"bench: standard input cannot be read\n");
+        console::complain(&rt, "bench: standard input cannot be read\n");
         return;
     }
     let n = got.count;
     let mut out = [0u8; 65536];
     let printed = file_sheets::bench(&input[..n], register, allowance, &mut out);
-    console::print(&out, printed.rows);
+    console::print(&rt, &out, printed.rows);
 }

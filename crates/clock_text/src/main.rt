@@ -4,21 +4,21 @@
 use history::Answer;
 use parsing::Number;
 
-fn main() {
-    if os::arg_count() != 2 {
-        console::complain(b"usage: clock_text STAMP\n");
+fn main(rt: HostRuntime) {
+    if !console::is_given(&rt, 1) || console::is_given(&rt, 2) {
+        console::complain(&rt, "usage: clock_text STAMP\n");
         return;
     }
-    let Number::Is(stamp) = console::number(1) else {
-        console::complain(b"clock_text: STAMP is not a decimal number of 64 bits\n");
+    let Number::Is(stamp) = console::number(&rt, 1) else {
+        console::complain(&rt, "clock_text: STAMP is not a decimal number of 64 bits\n");
         return;
     };
     // A clock text has at most 24 bytes, and what lies behind it stays as it is: its line feed.
     let mut line = [b'\n'; 25];
     let written = clock::write(stamp, &mut line);
     if written.code != Answer::FRESH {
-        console::complain(b"clock_text: STAMP is over the largest stamp, 4611686018427387903\n");
+        console::complain(&rt, "clock_text: STAMP is over the largest stamp, 4611686018427387903\n");
         return;
     }
-    console::print(&line, written.rows + 1);
+    console::print(&rt, &line, written.rows + 1);
 }

@@ -1,13 +1,16 @@
-// What the programs ask of the system: all of an input, a number among the arguments, printing, complaining. The contracts of the C library's calls are assumed.
+// What the programs ask of the system: all of an input, a number among the arguments, printing, complaining.
 #![tactic(auto)]
 
-ghost use Rattle.std.specs.Prelude.{◌≡◌, length};
+ghost use Rattle.std.specs.Prelude.{◌≡◌, ◌≤◌, length};
 ghost use Rattle.io.specs.Counts.{IsPrefixLen};
 ghost use Rattle.parsing.specs.Numbers.{lines_in, stored};
 ghost use Rattle.console.specs.Listings.{listing, Taken};
 
-use libc::{STDERR_FILENO, STDOUT_FILENO};
 use parsing::{Count, Number};
+use std::env::{Env, FillError};
+use std::fs;
+use std::fs::Files;
+use std::io::{Eprint, Print, Read};
 
 // How many bytes of an input stand at the front of the buffer, and whether no read failed.
 #[derive(Clone, Copy)]
@@ -17,19 +20,17 @@ pub struct Input {
 }
 
 // Reads until the buffer is full, the input ends or a read fails.
-pub fn take(fd: i32, bytes: &mut [u8]) -> Input
+pub fn take<R: Read>(input: &mut R, bytes: &mut [u8]) -> Input
     ensures { IsPrefixLen result.count bytes.new }
 {
     let mut done: usize = 0;
     while done < bytes.len() {
-        let got = libc::read(fd, &mut bytes[done..]);
-        if got < 0 {
+        let Ok(more) = input.read(&mut bytes[done..]) else {
             return Input {
                 sound: false,
                 count: done,
             };
-        }
-        let more = io::count(got, &bytes[done..]);
+        };
         if more < 1 {
             break;
         }
@@ -41,20 +42,26 @@ pub fn take(fd: i32, bytes: &mut [u8]) -> Input
     }
 }
 
-// All of a file that is named, up to the buffer's length.
-fn take_file(path: &[u8], bytes: &mut [u8]) -> Input
+// All of a file that is named, up to the buffer's length. A name that is no UTF-8 text is a file that cannot be read.
+fn take_file<R: Files>(rt: &R, name: &[u8], bytes: &mut [u8]) -> Input
     ensures { IsPrefixLen result.count bytes.new }
 {
-    let fd = os::open_read(path);
-    if fd < 0 {
+    let Ok(path) = str::from_utf8(name) else {
         return Input {
             sound: false,
             count: 0,
         };
+    };
+    match fs::open(rt, path) {
+        Ok(file) => {
+            let mut file = file;
+            take(&mut file, bytes)
+        }
+        Err(_) => Input {
+            sound: false,
+            count: 0,
+        },
     }
-    let input = take(fd, bytes);
-    libc::close(fd);
-    input
 }
 
 // How many row numbers stand at the front of the list, whether their file could be read, and whether it has a number on each line.
@@ -86,14 +93,14 @@ fn listed(bytes: &[u8], list: &mut [u64]) -> Listing
 
 // The row numbers in the file that an argument names, one a line, as many as the list holds. A line has at most 20 digits, so the numbers of
 // 1,025 lines stand in the first 21,525 bytes.
-pub fn take_rows(place: usize, list: &mut [u64]) -> Listing
+pub fn take_rows<R: Env + Files>(rt: &R, place: usize, list: &mut [u64]) -> Listing
     ensures within { IsPrefixLen result.count list.new }
     ensures taken { Taken list.old result list.new }
 {
-    let mut path = io::buffer();
-    let m = os::arg(place, &mut path);
-    let mut bytes = io::large_buffer();
-    let got = take_file(&path[..m], &mut bytes);
+    let mut name = [0u8; 4096];
+    let m = argument(rt, place, &mut name);
+    let mut bytes = [0u8; 65536];
+    let got = take_file(rt, &name[..m], &mut bytes);
     if !got.sound {
         return Listing {
             readable: false,
@@ -105,25 +112,44 @@ pub fn take_rows(place: usize, list: &mut [u64]) -> Listing
     listed(&bytes[..n], list)
 }
 
+// Puts an argument at the front of the buffer: its length, or 0 where there is none or the buffer is shorter.
+fn argument<R: Env>(rt: &R, place: usize, buffer: &mut [u8]) -> usize
+    ensures { result ≤ length buffer.new }
+{
+    match rt.arg(place, buffer) {
+        Ok(n) => n,
+        Err(_) => 0,
+    }
+}
+
+// Whether there is an argument at the place. Nothing is promised, as of `number`.
+pub fn is_given<R: Env>(rt: &R, place: usize) -> bool {
+    let mut word = [0u8; 1];
+    match rt.arg(place, &mut word) {
+        Err(FillError::NotPresent) => false,
+        _ => true,
+    }
+}
+
 // The number that an argument is, or that it is none. Nothing is promised: which bytes the system hands in no contract can say, and any number is
 // that of some bytes. What the bytes are worth is the contract of `number_in`.
-pub fn number(place: usize) -> Number {
+pub fn number<R: Env>(rt: &R, place: usize) -> Number {
     let mut word = [0u8; 32];
-    let n = os::arg(place, &mut word);
+    let n = argument(rt, place, &mut word);
     parsing::number_in(&word[..n])
 }
 
 // Prints the front of a text, or nothing where the text is not so long. Nothing is promised: no contract can say what the system takes.
-pub fn print(text: &[u8], length: u64) {
+pub fn print<R: Print + Eprint>(rt: &R, text: &[u8], length: u64) {
     if length <= text.len() as u64 {
         let n = length as usize;
-        if !io::write_all(STDOUT_FILENO, &text[..n]) {
-            complain(b"standard output cannot be written\n");
+        if rt.write_all(&text[..n]).is_err() {
+            complain(rt, "standard output cannot be written\n");
         }
     }
 }
 
 // Writes a line to standard error. Nothing is promised, as of `print`.
-pub fn complain(line: &[u8]) {
-    io::write_all(STDERR_FILENO, line);
+pub fn complain<R: Eprint>(rt: &R, line: &str) {
+    let _ = rt.eprint(line);
 }

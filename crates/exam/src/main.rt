@@ -3,38 +3,38 @@
 
 use parsing::Number;
 
-fn main() {
-    if os::arg_count() != 4 {
-        console::complain(b"usage: exam REGISTER K ORDERFILE <HISTORY\n");
+fn main(rt: HostRuntime) {
+    if !console::is_given(&rt, 3) || console::is_given(&rt, 4) {
+        console::complain(&rt, "usage: exam REGISTER K ORDERFILE <HISTORY\n");
         return;
     }
-    let Number::Is(register) = console::number(1) else {
-        console::complain(b"exam: REGISTER is not a decimal number of 64 bits\n");
+    let Number::Is(register) = console::number(&rt, 1) else {
+        console::complain(&rt, "exam: REGISTER is not a decimal number of 64 bits\n");
         return;
     };
-    let Number::Is(k) = console::number(2) else {
-        console::complain(b"exam: K is not a decimal number of 64 bits\n");
+    let Number::Is(k) = console::number(&rt, 2) else {
+        console::complain(&rt, "exam: K is not a decimal number of 64 bits\n");
         return;
     };
     let mut list = [0u64; 1025];
-    let order = console::take_rows(3, &mut list);
+    let order = console::take_rows(&rt, 3, &mut list);
     if !order.readable {
-        console::complain(b"exam: ORDERFILE cannot be read\n");
+        console::complain(&rt, "exam: ORDERFILE cannot be read\n");
         return;
     }
     if !order.sound {
-        console::complain(b"exam: ORDERFILE is not a list of row numbers, one a line\n");
+        console::complain(&rt, "exam: ORDERFILE is not a list of row numbers, one a line\n");
         return;
     }
     let rows = order.count;
     let mut input = [0u8; files::LONGEST];
-    let got = console::take(libc::STDIN_FILENO, &mut input);
+    let got = console::take(&mut rt.reader(), &mut input);
     if !got.sound {
-        console::complain(b"exam: standard input cannot be read\n");
+        console::complain(&rt, "exam: standard input cannot be read\n");
         return;
     }
     let n = got.count;
     let mut out = [0u8; 65536];
     let printed = file_sheets::exam(&input[..n], register, k, &list[..rows], &mut out);
-    console::print(&out, printed.rows);
+    console::print(&rt, &out, printed.rows);
 }

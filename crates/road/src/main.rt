@@ -1,15 +1,15 @@
 // Reads a history file from standard input and prints its report.
 #![tactic(auto)]
 
-fn main() {
+fn main(rt: HostRuntime) {
     let mut input = [0u8; files::LONGEST];
-    let got = console::take(libc::STDIN_FILENO, &mut input);
+    let got = console::take(&mut rt.reader(), &mut input);
     if !got.sound {
-        console::complain(b"road: standard input cannot be read\n");
+        console::complain(&rt, "road: standard input cannot be read\n");
         return;
     }
     let n = got.count;
     let mut out = [0u8; 131072];
     let printed = report::road(&input[..n], &mut out);
-    console::print(&out, printed.rows);
+    console::print(&rt, &out, printed.rows);
 }
