@@ -3,31 +3,31 @@
 #![tactic(auto)]
 
 use history::Answer;
-use libc::STDOUT_FILENO;
+use std::io::Print;
 
 // A number behind a comma.
-pub fn field(n: u64) {
-    io::write_all(STDOUT_FILENO, b",");
-    io::print_decimal(STDOUT_FILENO, n);
+pub fn field<R: Print>(rt: &R, n: u64) {
+    let _ = rt.write_all(b",");
+    let _ = rt.print(n);
 }
 
 // An answer, on a line of its own behind its name.
-pub fn show(name: &[u8], a: Answer) {
-    io::write_all(STDOUT_FILENO, name);
-    field(a.code);
-    field(a.row);
-    field(a.rows);
-    field(a.trials);
-    io::write_all(STDOUT_FILENO, b"\n");
+pub fn show<R: Print>(rt: &R, name: &[u8], a: Answer) {
+    let _ = rt.write_all(name);
+    field(rt, a.code);
+    field(rt, a.row);
+    field(rt, a.rows);
+    field(rt, a.trials);
+    let _ = rt.write_all(b"\n");
 }
 
 // A list, on a line of its own.
-pub fn places(list: &[u64]) {
+pub fn places<R: Print>(rt: &R, list: &[u64]) {
     let n = list.len();
     let mut i: usize = 0;
     while i < n {
-        field(list[i]);
+        field(rt, list[i]);
         i += 1;
     }
-    io::write_all(STDOUT_FILENO, b"\n");
+    let _ = rt.write_all(b"\n");
 }

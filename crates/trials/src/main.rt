@@ -6,7 +6,7 @@
 ghost use Rattle.std.specs.Prelude.{◌+◌, ◌*◌, ◌%◌, ◌<◌, ◌≤◌, length};
 
 use history::{Answer, Op, Row};
-use libc::STDOUT_FILENO;
+use std::io::Print;
 
 const REGISTER: u64 = 7;
 
@@ -396,24 +396,24 @@ fn compared(question: u64, k: u64) -> Tally {
     tally
 }
 
-fn field(name: &[u8], n: u64) {
-    io::write_all(STDOUT_FILENO, name);
-    io::print_decimal(STDOUT_FILENO, n);
+fn field<R: Print>(rt: &R, name: &[u8], n: u64) {
+    let _ = rt.write_all(name);
+    let _ = rt.print(n);
 }
 
-fn show(question: u64, tally: Tally) {
-    field(b"question ", question);
-    field(b": histories ", tally.histories);
-    field(b", with equal stamps ", tally.tied);
-    field(b", with an opening ", tally.opened);
-    field(b", fresh ", tally.fresh);
-    field(b", stale ", tally.stale);
-    field(b", differences ", tally.differences);
-    io::write_all(STDOUT_FILENO, b"\n");
+fn show<R: Print>(rt: &R, question: u64, tally: Tally) {
+    field(rt, b"question ", question);
+    field(rt, b": histories ", tally.histories);
+    field(rt, b", with equal stamps ", tally.tied);
+    field(rt, b", with an opening ", tally.opened);
+    field(rt, b", fresh ", tally.fresh);
+    field(rt, b", stale ", tally.stale);
+    field(rt, b", differences ", tally.differences);
+    let _ = rt.write_all(b"\n");
 }
 
-fn main() {
-    show(1, compared(1, 1));
-    show(2, compared(2, 2));
-    show(3, compared(3, 2));
+fn main(rt: HostRuntime) {
+    show(&rt, 1, compared(1, 1));
+    show(&rt, 2, compared(2, 2));
+    show(&rt, 3, compared(3, 2));
 }

@@ -3,6 +3,7 @@
 #![tactic(auto)]
 
 use history::Row;
+use std::io::Print;
 
 const C2: [u64; 15] = [7, 1, 1, 1, 2, 7, 1, 2, 3, 4, 7, 2, 1, 5, 6];
 
@@ -57,179 +58,226 @@ fn fill(table: &mut [u64]) {
     }
 }
 
-fn histories() {
-    answer_lines::show(b"C1 screened", screening::screen(&[], 7));
-    answer_lines::show(b"C2 screened", screening::screen(&C2, 7));
-    answer_lines::show(b"C2 for another register", screening::screen(&C2, 8));
-    answer_lines::show(b"C7 screened", screening::screen(&C7, 7));
-    answer_lines::show(b"C8 screened", screening::screen(&C8, 7));
+fn histories<R: Print>(rt: &R) {
+    answer_lines::show(rt, b"C1 screened", screening::screen(&[], 7));
+    answer_lines::show(rt, b"C2 screened", screening::screen(&C2, 7));
+    answer_lines::show(rt, b"C2 for another register", screening::screen(&C2, 8));
+    answer_lines::show(rt, b"C7 screened", screening::screen(&C7, 7));
+    answer_lines::show(rt, b"C8 screened", screening::screen(&C8, 7));
 }
 
-fn stamps() {
-    answer_lines::show(b"C12 largest stamp", screening::screen(&LARGEST, 7));
-    answer_lines::show(b"C12 a larger one", screening::screen(&TOO_LARGE, 7));
+fn stamps<R: Print>(rt: &R) {
+    answer_lines::show(rt, b"C12 largest stamp", screening::screen(&LARGEST, 7));
+    answer_lines::show(rt, b"C12 a larger one", screening::screen(&TOO_LARGE, 7));
     answer_lines::show(
+        rt,
         b"C12 start equal to finish",
         screening::screen(&EMPTY_SPAN, 7),
     );
 }
 
-fn limits() {
+fn limits<R: Print>(rt: &R) {
     let mut full = [0u64; 5120];
     fill(&mut full);
-    answer_lines::show(b"C11 1024 rows", screening::screen(&full, 7));
+    answer_lines::show(rt, b"C11 1024 rows", screening::screen(&full, 7));
     let mut overfull = [0u64; 5125];
     fill(&mut overfull);
-    answer_lines::show(b"C11 1025 rows", screening::screen(&overfull, 7));
+    answer_lines::show(rt, b"C11 1025 rows", screening::screen(&overfull, 7));
 }
 
-fn orders_accepted() {
-    answer_lines::show(b"C2 in 0 1 2 for k 2", orders::check(&C2, 7, 2, &[0, 1, 2]));
-    answer_lines::show(b"C4 in 2 0 1 for k 1", orders::check(&C4, 7, 1, &[2, 0, 1]));
-    answer_lines::show(b"C4 in 0 2 1 for k 2", orders::check(&C4, 7, 2, &[0, 2, 1]));
+fn orders_accepted<R: Print>(rt: &R) {
     answer_lines::show(
+        rt,
+        b"C2 in 0 1 2 for k 2",
+        orders::check(&C2, 7, 2, &[0, 1, 2]),
+    );
+    answer_lines::show(
+        rt,
+        b"C4 in 2 0 1 for k 1",
+        orders::check(&C4, 7, 1, &[2, 0, 1]),
+    );
+    answer_lines::show(
+        rt,
+        b"C4 in 0 2 1 for k 2",
+        orders::check(&C4, 7, 2, &[0, 2, 1]),
+    );
+    answer_lines::show(
+        rt,
         b"C7 in 0 1 for the largest k",
         orders::check(&C7, 7, 18446744073709551615, &[0, 1]),
     );
 }
 
-fn orders_refused() {
+fn orders_refused<R: Print>(rt: &R) {
     answer_lines::show(
+        rt,
         b"C9 C2 in 0 1 2 for k 1",
         orders::check(&C2, 7, 1, &[0, 1, 2]),
     );
     answer_lines::show(
+        rt,
         b"C10 C2 in 1 0 2 for k 2",
         orders::check(&C2, 7, 2, &[1, 0, 2]),
     );
-    answer_lines::show(b"C2 in 0 1 2 for k 0", orders::check(&C2, 7, 0, &[0, 1, 2]));
-    answer_lines::show(b"C8 in 0 1", orders::check(&C8, 7, 1, &[0, 1]));
+    answer_lines::show(
+        rt,
+        b"C2 in 0 1 2 for k 0",
+        orders::check(&C2, 7, 0, &[0, 1, 2]),
+    );
+    answer_lines::show(rt, b"C8 in 0 1", orders::check(&C8, 7, 1, &[0, 1]));
 }
 
-fn misfit_lists() {
-    answer_lines::show(b"C2 in 0 1", orders::check(&C2, 7, 2, &[0, 1]));
-    answer_lines::show(b"C2 in 0 1 2 2", orders::check(&C2, 7, 2, &[0, 1, 2, 2]));
+fn misfit_lists<R: Print>(rt: &R) {
+    answer_lines::show(rt, b"C2 in 0 1", orders::check(&C2, 7, 2, &[0, 1]));
     answer_lines::show(
+        rt,
+        b"C2 in 0 1 2 2",
+        orders::check(&C2, 7, 2, &[0, 1, 2, 2]),
+    );
+    answer_lines::show(
+        rt,
         b"C2 in 0 and no row",
         orders::check(&C2, 7, 2, &[0, 18446744073709551615, 1]),
     );
 }
 
 // One mark of register 7, with a list of seven places.
-fn line(name: &[u8], table: &[u64], question: u64, allowance: u64) {
+fn line<R: Print>(rt: &R, name: &[u8], table: &[u64], question: u64, allowance: u64) {
     let mut list = [90u64, 91, 92, 93, 94, 95, 96];
-    answer_lines::show(name, marker::mark(table, 7, question, allowance, &mut list));
-    answer_lines::places(&list);
+    answer_lines::show(
+        rt,
+        name,
+        marker::mark(table, 7, question, allowance, &mut list),
+    );
+    answer_lines::places(rt, &list);
 }
 
 // The three questions, LBT with an allowance that is always enough.
-fn three(name: &[u8], table: &[u64]) {
-    line(name, table, 1, 0);
-    line(name, table, 2, 524800);
-    line(name, table, 3, 0);
+fn three<R: Print>(rt: &R, name: &[u8], table: &[u64]) {
+    line(rt, name, table, 1, 0);
+    line(rt, name, table, 2, 524800);
+    line(rt, name, table, 3, 0);
 }
 
-fn marks() {
-    three(b"C1 marked", &[]);
-    three(b"C2 marked", &C2);
-    three(b"C3 marked", &C3);
-    three(b"C4 marked", &C4);
-    three(b"C5 marked", &C5);
+fn marks<R: Print>(rt: &R) {
+    three(rt, b"C1 marked", &[]);
+    three(rt, b"C2 marked", &C2);
+    three(rt, b"C3 marked", &C3);
+    three(rt, b"C4 marked", &C4);
+    three(rt, b"C5 marked", &C5);
 }
 
-fn more_marks() {
-    three(b"C6 marked", &C6);
-    three(b"C7 marked", &C7);
-    three(b"C8 marked", &C8);
+fn more_marks<R: Print>(rt: &R) {
+    three(rt, b"C6 marked", &C6);
+    three(rt, b"C7 marked", &C7);
+    three(rt, b"C8 marked", &C8);
 }
 
-fn allowances() {
-    line(b"C5 by LBT with 3 trials", &C5, 2, 3);
-    line(b"C5 by LBT with 2 trials", &C5, 2, 2);
-    line(b"C5 by LBT with none", &C5, 2, 0);
-    line(b"C5 for question 0", &C5, 0, 3);
-    line(b"C5 for the largest question", &C5, 18446744073709551615, 3);
+fn allowances<R: Print>(rt: &R) {
+    line(rt, b"C5 by LBT with 3 trials", &C5, 2, 3);
+    line(rt, b"C5 by LBT with 2 trials", &C5, 2, 2);
+    line(rt, b"C5 by LBT with none", &C5, 2, 0);
+    line(rt, b"C5 for question 0", &C5, 0, 3);
+    line(
+        rt,
+        b"C5 for the largest question",
+        &C5,
+        18446744073709551615,
+        3,
+    );
 }
 
-fn marked_stamps() {
-    three(b"C12 largest stamp marked", &LARGEST);
-    three(b"C12 a larger one marked", &TOO_LARGE);
-    three(b"C12 start equal to finish marked", &EMPTY_SPAN);
+fn marked_stamps<R: Print>(rt: &R) {
+    three(rt, b"C12 largest stamp marked", &LARGEST);
+    three(rt, b"C12 a larger one marked", &TOO_LARGE);
+    three(rt, b"C12 start equal to finish marked", &EMPTY_SPAN);
 }
 
-fn opened() {
-    three(b"an opening read after one write", &READ_AFTER_ONE);
-    three(b"an opening read after two writes", &READ_AFTER_TWO);
-    three(b"a write inside the zone of the opening", &INSIDE_OPENING);
+fn opened<R: Print>(rt: &R) {
+    three(rt, b"an opening read after one write", &READ_AFTER_ONE);
+    three(rt, b"an opening read after two writes", &READ_AFTER_TWO);
+    three(
+        rt,
+        b"a write inside the zone of the opening",
+        &INSIDE_OPENING,
+    );
 }
 
-fn refused_openings() {
-    answer_lines::show(b"two openings", screening::screen(&TWO_OPENINGS, 7));
+fn refused_openings<R: Print>(rt: &R) {
+    answer_lines::show(rt, b"two openings", screening::screen(&TWO_OPENINGS, 7));
     answer_lines::show(
+        rt,
         b"an opening with a stamp",
         screening::screen(&OPENING_AT_1, 7),
     );
     answer_lines::show(
+        rt,
         b"an opening that is not first in an order",
         orders::check(&INSIDE_OPENING, 7, 2, &[0, 2, 1]),
     );
 }
 
 // One mark of register 7; of the list the first and the last two places are shown.
-fn ends(name: &[u8], table: &[u64], question: u64, list: &mut [u64]) {
-    answer_lines::show(name, marker::mark(table, 7, question, 524800, list));
+fn ends<R: Print>(rt: &R, name: &[u8], table: &[u64], question: u64, list: &mut [u64]) {
+    answer_lines::show(rt, name, marker::mark(table, 7, question, 524800, list));
     let n = list.len();
     if n < 4 {
-        answer_lines::places(list);
+        answer_lines::places(rt, list);
         return;
     }
-    answer_lines::places(&[list[0], list[1], list[n - 2], list[n - 1]]);
+    answer_lines::places(rt, &[list[0], list[1], list[n - 2], list[n - 1]]);
 }
 
 // The full table by each question, with a place too few, and a table with a row too many.
-fn marked_limits() {
+fn marked_limits<R: Print>(rt: &R) {
     let mut full = [0u64; 5120];
     fill(&mut full);
     let mut list = [9000u64; 1024];
-    ends(b"C11 1024 rows by zones", &full, 1, &mut list);
-    ends(b"C11 1024 rows by LBT", &full, 2, &mut list);
-    ends(b"C11 1024 rows by FZF", &full, 3, &mut list);
+    ends(rt, b"C11 1024 rows by zones", &full, 1, &mut list);
+    ends(rt, b"C11 1024 rows by LBT", &full, 2, &mut list);
+    ends(rt, b"C11 1024 rows by FZF", &full, 3, &mut list);
 }
 
-fn refused_limits() {
+fn refused_limits<R: Print>(rt: &R) {
     let mut full = [0u64; 5120];
     fill(&mut full);
-    ends(b"C11 a place too few", &full, 3, &mut [9000u64; 1023]);
+    ends(rt, b"C11 a place too few", &full, 3, &mut [9000u64; 1023]);
     let mut overfull = [0u64; 5125];
     fill(&mut overfull);
-    ends(b"C11 1025 rows marked", &overfull, 3, &mut [9000u64; 1025]);
+    ends(
+        rt,
+        b"C11 1025 rows marked",
+        &overfull,
+        3,
+        &mut [9000u64; 1025],
+    );
 }
 
 // An answer in a lent list: where there is room, and where there is none.
-fn written() {
+fn written<R: Print>(rt: &R) {
     let answer = orders::check(&C2, 7, 2, &[1, 0, 2]);
     let mut list = [90u64, 91, 92, 93, 94];
-    answer_lines::show(b"written to 5 places", answer.write(&mut list));
-    answer_lines::places(&list);
+    answer_lines::show(rt, b"written to 5 places", answer.write(&mut list));
+    answer_lines::places(rt, &list);
     let mut short = [90u64, 91, 92];
-    answer_lines::show(b"written to 3 places", answer.write(&mut short));
-    answer_lines::places(&short);
+    answer_lines::show(rt, b"written to 3 places", answer.write(&mut short));
+    answer_lines::places(rt, &short);
 }
 
-fn main() {
-    histories();
-    limits();
-    stamps();
-    orders_accepted();
-    orders_refused();
-    misfit_lists();
-    written();
-    marks();
-    more_marks();
-    allowances();
-    marked_stamps();
-    opened();
-    refused_openings();
-    marked_limits();
-    refused_limits();
+fn main(rt: HostRuntime) {
+    histories(&rt);
+    limits(&rt);
+    stamps(&rt);
+    orders_accepted(&rt);
+    orders_refused(&rt);
+    misfit_lists(&rt);
+    written(&rt);
+    marks(&rt);
+    more_marks(&rt);
+    allowances(&rt);
+    marked_stamps(&rt);
+    opened(&rt);
+    refused_openings(&rt);
+    marked_limits(&rt);
+    refused_limits(&rt);
 }

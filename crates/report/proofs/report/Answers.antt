@@ -13,6 +13,9 @@ overflow_mul-n c = omega (arith, lines_few _ c.args.out.now _ _ c.summary-summed
 pub slice_bounds-numbers-end : goal.slice_bounds-numbers-end
 slice_bounds-numbers-end c = numbers_in _ c.args.out.now _ _ c.summary-summed.ensures.outcome (omega arith)
 
+pub slice_bounds-headed-end-2 : goal.slice_bounds-headed-end-2
+slice_bounds-headed-end-2 c = numbers_long _ c.args.out.now _ _ c.summary-summed.ensures.outcome (omega arith)
+
 pub headed-requires : goal.headed-requires
 headed-requires c = record { header_len_bound = omega arith; w_in_bounds = omega (arith, numbers_long _ c.args.out.now _ _ c.summary-summed.ensures.outcome (omega arith)); w_bound = omega arith; k_le_largest_count = lines_few _ c.args.out.now _ _ c.summary-summed.ensures.outcome (omega arith) }
 

@@ -1,0 +1,26 @@
+-- The file is refused, or its table's sheet and check are printed.
+use Rattle.sheet.proofs.Showing.{shown, told}
+use native.Mathlib.Omega.{arith}
+use Rattle.records.specs.Records.{table_of}
+use Rattle.files.proofs.Loading.{loaded_as, loaded_small, loaded_front, loaded_in, loaded_long}
+use Rattle.printing.proofs.Filing.{loading_refused, loading_printed}
+use Rattle.sheet.specs.Sheet.{exam_of}
+use Rattle.file_sheets.specs.Files.{exam_file}
+use Rattle.file_sheets.proofs.exam.Goals as goal
+
+pub returns-then-read-ne-FRESH : goal.returns-then-read-ne-FRESH
+unfolding exam_file
+returns-then-read-ne-FRESH c = record { text = loading_refused (exam_of (table_of c.args.bytes.now) c.args.register c.args.k c.args.list.now) _ _ _ (loaded_as _ _ _ c.read-read.ensures.outcome.0 (omega arith)) _ _ c.if-read-ne-FRESH.true c.refusal.ensures; shown = shown _ _ _; told = told _ _ _ _ }
+
+pub overflow_mul-end : goal.overflow_mul-end
+overflow_mul-end c = omega (arith, loaded_small c.args.bytes.now _ c.read-read.result c.read-read.new.table c.read-read.ensures.outcome c.if-read-ne-FRESH.false)
+
+pub slice_bounds-table-end : goal.slice_bounds-table-end
+slice_bounds-table-end c = loaded_in c.args.bytes.now _ _ _ c.read-read.ensures.outcome c.if-read-ne-FRESH.false
+
+pub slice_bounds-checked-end : goal.slice_bounds-checked-end
+slice_bounds-checked-end c = loaded_long c.args.bytes.now _ _ _ c.read-read.ensures.outcome c.if-read-ne-FRESH.false
+
+pub returns : goal.returns
+unfolding exam_file
+returns c = record { text = loading_printed (exam_of (table_of c.args.bytes.now) c.args.register c.args.k c.args.list.now) _ _ _ (loaded_as _ _ _ c.read-read.ensures.outcome.0 (omega arith)) _ _ c.if-read-ne-FRESH.false (rw (loaded_front _ _ _ _ c.read-read.ensures.outcome c.if-read-ne-FRESH.false) at c.checked.ensures.text); shown = shown _ _ _; told = told _ _ _ _ }

@@ -1,0 +1,24 @@
+use Prim.Native.Nat.{◌-◌}
+use native.Mathlib.Omega.{arith}
+use Rattle.trials.proofs.tied.Goals as goal
+
+pub loop-i-init : goal.loop-i-init
+loop-i-init c = omega arith
+
+pub meets-requires : goal.meets-requires
+meets-requires c = omega arith
+
+pub returns-then-meets : goal.returns-then-meets
+returns-then-meets c = omega arith
+
+pub overflow_add-i : goal.overflow_add-i
+overflow_add-i c = omega arith
+
+pub loop-i-smaller : goal.loop-i-smaller
+loop-i-smaller c = omega arith
+
+pub loop-i-preserved : goal.loop-i-preserved
+loop-i-preserved c = omega arith
+
+pub returns : goal.returns
+returns c = omega arith
