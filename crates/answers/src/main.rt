@@ -9,11 +9,17 @@ fn main(rt: HostRuntime) {
         return;
     }
     let Number::Is(question) = console::number(&rt, 1) else {
-        console::complain(&rt, "answers: QUESTION is not a decimal number of 64 bits\n");
+        console::complain(
+            &rt,
+            "answers: QUESTION is not a decimal number of 64 bits\n",
+        );
         return;
     };
     let Number::Is(allowance) = console::number(&rt, 2) else {
-        console::complain(&rt, "answers: ALLOWANCE is not a decimal number of 64 bits\n");
+        console::complain(
+            &rt,
+            "answers: ALLOWANCE is not a decimal number of 64 bits\n",
+        );
         return;
     };
     let mut input = [0u8; files::LONGEST];

@@ -53,7 +53,9 @@ fn viable(
     requires sound { Sound (cols start.now finish.now writer.now last.now prev.now) }
     requires holds { Holds (cols start.now finish.now writer.now last.now prev.now) (state_of placed.old order.old (length order.old) top) }
     requires turns { Turns writer.now turn.now (state_of placed.old order.old (length order.old) top) }
-    ensures end { Gives (cols start.now finish.now writer.now last.now prev.now) (viable_by turn.now (left (state_of placed.old order.old (length order.old) top))) (laid (state_of placed.old order.old (length order.old) top)) order.new result }
+    ensures end { Gives (cols start.now finish.now writer.now last.now prev.now)
+        (viable_by turn.now (left (state_of placed.old order.old (length order.old) top)))
+        (laid (state_of placed.old order.old (length order.old) top)) order.new result }
     ensures marks { Shrinks (length start.now) placed.old placed.new }
 {
     let n = turn.len();
@@ -174,7 +176,8 @@ fn attempt(
 ) -> Front
     requires sound { Sound (cols start.now finish.now writer.now last.now prev.now) }
     requires offered { Offered (cols start.now finish.now writer.now last.now prev.now) forwards.now inner.now turn.old placed.old order.old top }
-    ensures end { Gives (cols start.now finish.now writer.now last.now prev.now) (tried_by (offer forwards.now inner.now flip swap ∷ []) (clusters_of writer.now (forwards.now ++ inner.now))) [] order.new result }
+    ensures end { Gives (cols start.now finish.now writer.now last.now prev.now)
+        (tried_by (offer forwards.now inner.now flip swap ∷ []) (clusters_of writer.now (forwards.now ++ inner.now))) [] order.new result }
     ensures marks { Within writer.now (forwards.now ++ inner.now) placed.new }
 {
     freeing::paint(writer, last, prev, forwards, inner, freeing::FREE, placed);
@@ -209,7 +212,8 @@ fn attempts(
 ) -> Front
     requires sound { Sound (cols start.now finish.now writer.now last.now prev.now) }
     requires offered { Offered (cols start.now finish.now writer.now last.now prev.now) forwards.now inner.now turn.old placed.old order.old top }
-    ensures end { Gives (cols start.now finish.now writer.now last.now prev.now) (tried_by (offers forwards.now inner.now swap) (clusters_of writer.now (forwards.now ++ inner.now))) [] order.new result }
+    ensures end { Gives (cols start.now finish.now writer.now last.now prev.now)
+        (tried_by (offers forwards.now inner.now swap) (clusters_of writer.now (forwards.now ++ inner.now))) [] order.new result }
     ensures marks { Within writer.now (forwards.now ++ inner.now) placed.new }
 {
     let n = inner.len();
@@ -243,7 +247,8 @@ fn first(
 ) -> Front
     requires sound { Sound (cols start.now finish.now writer.now last.now prev.now) }
     requires offered { Offered (cols start.now finish.now writer.now last.now prev.now) forwards.now inner.now turn.old placed.old order.old top }
-    ensures end { Gives (cols start.now finish.now writer.now last.now prev.now) (chosen_by forwards.now inner.now (clusters_of writer.now (forwards.now ++ inner.now))) [] order.new result }
+    ensures end { Gives (cols start.now finish.now writer.now last.now prev.now)
+        (chosen_by forwards.now inner.now (clusters_of writer.now (forwards.now ++ inner.now))) [] order.new result }
     ensures marks { Within writer.now (forwards.now ++ inner.now) placed.new }
 {
     let n = inner.len();
@@ -277,7 +282,8 @@ pub fn choose(
     requires sound { Sound (cols start.now finish.now writer.now last.now prev.now) }
     requires chunk { Chunk (cols start.now finish.now writer.now last.now prev.now) forwards.now inner.now turn.old placed.old order.old }
     requires shut { Shut (length writer.now) placed.old }
-    ensures end { Gives (cols start.now finish.now writer.now last.now prev.now) (chosen_by forwards.now inner.now (clusters_of writer.now (forwards.now ++ inner.now))) [] order.new result }
+    ensures end { Gives (cols start.now finish.now writer.now last.now prev.now)
+        (chosen_by forwards.now inner.now (clusters_of writer.now (forwards.now ++ inner.now))) [] order.new result }
     ensures marks { Shut (length writer.now) placed.new }
 {
     let top = freeing::above(last, forwards, inner);

@@ -210,7 +210,8 @@ pub fn mark_inner(
 pub fn skip(backwards: &[u64], marks: &[u8], j: usize) -> usize
     requires by_index { (i : ℕ) → i < length backwards.now → get_or backwards.now i 0 < length marks.now }
     requires j_in_bounds { j ≤ length backwards.now }
-    ensures { (finish late forwards : List ℕ) → Hangs finish late forwards backwards.now marks.now → Skips finish late forwards backwards.now j result }
+    ensures { (finish late forwards : List ℕ) → Hangs finish late forwards backwards.now marks.now →
+        Skips finish late forwards backwards.now j result }
 {
     let n = backwards.len();
     let mut i = j;
@@ -235,7 +236,8 @@ pub fn cluster(
 ) -> usize
     requires linked { Linked writer.now last.now prev.now }
     requires w_in_bounds { (w < length writer.now) × (get_or writer.now w 0 ≡ w) }
-    requires writer_len_bound { (length writer.now ≤ largest_count) × (length writer.now ≤ length placed.old) × (length writer.now ≤ length order.old) }
+    requires writer_len_bound { (length writer.now ≤ largest_count) × (length writer.now ≤ length placed.old) ×
+        (length writer.now ≤ length order.old) }
     requires shut { Shut (length writer.now) placed.old }
     ensures end { (drop result order.new ≡ cluster_at writer.now w) × (result ≤ length order.new) }
     ensures marks { Shut (length writer.now) placed.new }

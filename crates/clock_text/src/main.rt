@@ -10,14 +10,20 @@ fn main(rt: HostRuntime) {
         return;
     }
     let Number::Is(stamp) = console::number(&rt, 1) else {
-        console::complain(&rt, "clock_text: STAMP is not a decimal number of 64 bits\n");
+        console::complain(
+            &rt,
+            "clock_text: STAMP is not a decimal number of 64 bits\n",
+        );
         return;
     };
     // A clock text has at most 24 bytes, and what lies behind it stays as it is: its line feed.
     let mut line = [b'\n'; 25];
     let written = clock::write(stamp, &mut line);
     if written.code != Answer::FRESH {
-        console::complain(&rt, "clock_text: STAMP is over the largest stamp, 4611686018427387903\n");
+        console::complain(
+            &rt,
+            "clock_text: STAMP is over the largest stamp, 4611686018427387903\n",
+        );
         return;
     }
     console::print(&rt, &line, written.rows + 1);

@@ -23,7 +23,10 @@ fn main(rt: HostRuntime) {
         return;
     }
     if !order.sound {
-        console::complain(&rt, "exam: ORDERFILE is not a list of row numbers, one a line\n");
+        console::complain(
+            &rt,
+            "exam: ORDERFILE is not a list of row numbers, one a line\n",
+        );
         return;
     }
     let rows = order.count;

@@ -70,7 +70,8 @@ fn chunk(
     requires shut { Shut (length writer.now) placed.old }
     ensures order { Chunked (cols start.now finish.now writer.now last.now prev.now) run.now top part.new result.at result.failed }
     ensures marks { Shut (length writer.now) placed.new }
-    ensures next { (limit : ℕ) → low (zone_by finish.now late.now (get_or run.now 0 0)) ≤ limit → top ≤ limit → Behind finish.now late.now backwards.now result.next limit }
+    ensures next { (limit : ℕ) → low (zone_by finish.now late.now (get_or run.now 0 0)) ≤ limit → top ≤ limit →
+        Behind finish.now late.now backwards.now result.next limit }
 {
     let bottom = low_end(finish, late, run[0] as usize);
     let found = chunking::enclose(finish, late, backwards, i, bottom, top, list);
@@ -172,7 +173,8 @@ fn item(
     requires poised { Poised (cols start.now finish.now writer.now last.now prev.now) late.now forwards.now backwards.now a i placed.old }
     requires lent { Lent (length start.now) list.old turn.old placed.old part.old }
     ensures end { Nexts (cols start.now finish.now writer.now last.now prev.now) forwards.now backwards.now a j part.new result }
-    ensures still_poised { Poised (cols start.now finish.now writer.now last.now prev.now) late.now forwards.now backwards.now result.forward result.inner placed.new }
+    ensures still_poised { Poised (cols start.now finish.now writer.now last.now prev.now) late.now forwards.now backwards.now
+        result.forward result.inner placed.new }
 {
     if chunk_first(finish, late, forwards, backwards, a, j) {
         let span = chunking::run(finish, late, forwards, a);

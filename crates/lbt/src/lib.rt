@@ -162,7 +162,8 @@ fn round(
     requires low_in_bounds { low ≤ length start.now }
     requires skipped { Skipped falling.now placed.old from }
     requires trials_le_allowance { trials ≤ allowance }
-    ensures { Turned (cols start.now finish.now writer.now last.now prev.now) (state_of placed.old order.old at top) trials allowance placed.new order.new result }
+    ensures { Turned (cols start.now finish.now writer.now last.now prev.now) (state_of placed.old order.old at top) trials allowance
+        placed.new order.new result }
 {
     let newest = start[low - 1];
     let n = falling.len();

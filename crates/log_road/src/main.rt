@@ -21,7 +21,10 @@ fn main(rt: HostRuntime) {
     }
     let n = got.count;
     if LONGEST < n {
-        console::complain(&rt, "log: standard input is longer than 1 MiB, and was not read\n");
+        console::complain(
+            &rt,
+            "log: standard input is longer than 1 MiB, and was not read\n",
+        );
         return;
     }
     let mut out = [0u8; 131072];

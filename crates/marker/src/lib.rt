@@ -48,7 +48,8 @@ pub fn unasked(question: u64) -> bool
 // register's rows stand at the front of these then.
 fn refusal(table: &[u64], register: u64, question: u64, room: usize, rows: &mut [u64]) -> Answer
     requires { row_count table.now ≤ largest_count → row_count table.now ≤ length rows.old }
-    ensures by_index { (list : List ℕ) → length list ≡ room → result ≡ first_met (mark_tests (length table.now) (history table.now register) question list) (passed (length (history table.now register))) }
+    ensures by_index { (list : List ℕ) → length list ≡ room → result ≡ first_met
+        (mark_tests (length table.now) (history table.now register) question list) (passed (length (history table.now register))) }
     ensures gathered { result.code ≡ 0 → Gathered table.now register rows.new }
 {
     let nine = screening::examine_into(table, register, unasked(question), rows);

@@ -155,7 +155,8 @@ pub fn step(
     requires sound { Sound (cols start.now finish.now writer.now last.now prev.now) }
     requires holds { Holds (cols start.now finish.now writer.now last.now prev.now) (state_of placed.old order.old at top) }
     requires whose { Whose writer.now (state_of placed.old order.old at top) w }
-    ensures { Stepped (cols start.now finish.now writer.now last.now prev.now) w (state_of placed.old order.old at top) (tried_of placed.new order.new result) }
+    ensures { Stepped (cols start.now finish.now writer.now last.now prev.now) w (state_of placed.old order.old at top)
+        (tried_of placed.new order.new result) }
 {
     let bound = finish[w];
     let seen = scan(start, writer, placed, order, at, top, w as u64, bound);

@@ -56,7 +56,8 @@ fn put_behind(n: u64, out: &mut [u8], at: usize) -> usize
 // Writes the numbers from the second on, each behind a comma, and the line feed.
 fn put_rest(numbers: &[u64], out: &mut [u8], at: usize) -> usize
     requires { at + length (behind (drop 1 numbers.now) ++ (10 ∷ [])) ≤ length out.old }
-    ensures { (result ≡ at + length (behind (drop 1 numbers.now) ++ (10 ∷ []))) × (out.new ≡ sets out.old at (behind (drop 1 numbers.now) ++ (10 ∷ []))) }
+    ensures { (result ≡ at + length (behind (drop 1 numbers.now) ++ (10 ∷ []))) ×
+        (out.new ≡ sets out.old at (behind (drop 1 numbers.now) ++ (10 ∷ []))) }
 {
     let mut place = at;
     let mut i = 1;

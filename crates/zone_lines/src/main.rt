@@ -9,7 +9,10 @@ fn main(rt: HostRuntime) {
         return;
     }
     let Number::Is(register) = console::number(&rt, 1) else {
-        console::complain(&rt, "zone_lines: REGISTER is not a decimal number of 64 bits\n");
+        console::complain(
+            &rt,
+            "zone_lines: REGISTER is not a decimal number of 64 bits\n",
+        );
         return;
     };
     let mut input = [0u8; files::LONGEST];

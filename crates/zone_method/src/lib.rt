@@ -88,7 +88,8 @@ fn lay(
     requires ready { Ready (length writer.now) (state_of placed.old order.old at (length writer.now)) }
     requires whole { Whole writer.now list.now (length list.now) (state_of placed.old order.old at (length writer.now)) }
     requires once { Once list.now }
-    ensures { let s = state_of placed.old order.old at (length writer.now) in Lays writer.now list.now s (state_of placed.new order.new result s.top) }
+    ensures { let s = state_of placed.old order.old at (length writer.now) in Lays writer.now list.now s
+        (state_of placed.new order.new result s.top) }
 {
     let mut a = at;
     let mut i = list.len();
@@ -122,7 +123,8 @@ fn settle(
     requires placed_room { length start.now ≤ length placed.old }
     requires free { (i : ℕ) → i < length placed.old → is_free placed.old i ≡ true }
     requires order_room { length start.now ≤ length order.old }
-    ensures { (allowance : ℕ) → Searched (cols start.now finish.now writer.now last.now prev.now) allowance (λ H. untried (zones H)) order.new result }
+    ensures { (allowance : ℕ) → Searched (cols start.now finish.now writer.now last.now prev.now) allowance (λ H. untried (zones H))
+        order.new result }
 {
     if one {
         let to = order.len();
@@ -156,7 +158,8 @@ fn search_with(
     requires placed_room { length rows.now ≤ length placed.old }
     requires free { (i : ℕ) → i < length placed.old → is_free placed.old i ≡ true }
     requires order_room { length rows.now ≤ length order.old }
-    ensures { (allowance : ℕ) → Searched (cols start.now finish.now writer.now chain.now prev.now) allowance (λ H. untried (zones H)) order.new result }
+    ensures { (allowance : ℕ) → Searched (cols start.now finish.now writer.now chain.now prev.now) allowance (λ H. untried (zones H))
+        order.new result }
 {
     // The order is written later, and has the room for the low ends until then.
     let m = zone_list::fill(
@@ -192,7 +195,8 @@ fn search_few(
     requires listed { (register : ℕ) × Listed table.now register rows.now }
     requires few { length rows.now ≤ 32 }
     requires order_room { length rows.now ≤ length order.old }
-    ensures { (allowance : ℕ) → Searched (cols start.now finish.now writer.now chain.now prev.now) allowance (λ H. untried (zones H)) order.new result }
+    ensures { (allowance : ℕ) → Searched (cols start.now finish.now writer.now chain.now prev.now) allowance (λ H. untried (zones H))
+        order.new result }
 {
     let n = rows.len();
     let mut late = [0u64; zone_list::FEW];
@@ -230,7 +234,8 @@ fn search_some(
     requires listed { (register : ℕ) × Listed table.now register rows.now }
     requires few { length rows.now ≤ 256 }
     requires order_room { length rows.now ≤ length order.old }
-    ensures { (allowance : ℕ) → Searched (cols start.now finish.now writer.now chain.now prev.now) allowance (λ H. untried (zones H)) order.new result }
+    ensures { (allowance : ℕ) → Searched (cols start.now finish.now writer.now chain.now prev.now) allowance (λ H. untried (zones H))
+        order.new result }
 {
     let n = rows.len();
     let mut late = [0u64; zone_list::SOME];
@@ -268,7 +273,8 @@ fn search_many(
     requires listed { (register : ℕ) × Listed table.now register rows.now }
     requires few { length rows.now ≤ largest_count }
     requires order_room { length rows.now ≤ length order.old }
-    ensures { (allowance : ℕ) → Searched (cols start.now finish.now writer.now chain.now prev.now) allowance (λ H. untried (zones H)) order.new result }
+    ensures { (allowance : ℕ) → Searched (cols start.now finish.now writer.now chain.now prev.now) allowance (λ H. untried (zones H))
+        order.new result }
 {
     let n = rows.len();
     let mut late = [0u64; Row::LARGEST_COUNT];
@@ -306,7 +312,8 @@ pub fn search(
     requires listed { (register : ℕ) × Listed table.now register rows.now }
     requires few { length rows.now ≤ largest_count }
     requires order_room { length rows.now ≤ length order.old }
-    ensures { (allowance : ℕ) → Searched (cols start.now finish.now writer.now chain.now prev.now) allowance (λ H. untried (zones H)) order.new result }
+    ensures { (allowance : ℕ) → Searched (cols start.now finish.now writer.now chain.now prev.now) allowance (λ H. untried (zones H))
+        order.new result }
 {
     let n = rows.len();
     if n <= zone_list::FEW {

@@ -15,11 +15,11 @@ pub slice_bounds-put_lines-end-2 : goal.slice_bounds-put_lines-end-2
 slice_bounds-put_lines-end-2 c = own_front _ _ _ (c.registers-m.ensures _ c.group.ensures)
 
 pub put_lines-requires : goal.put_lines-requires
-put_lines-requires c = 
+put_lines-requires c =
     let e = c.registers-m.ensures _ c.group.ensures in record { sound = c.requires.sound; grouped_value = c.group.ensures.grouped; asked = c.requires.asked; table_in_bounds = omega (arith, c.requires.keys_len, c.group.auto.keys); table_in_bounds_2 = c.requires.table_in_bounds; order_len = c.requires.order_len; registers_in_bounds = omega (arith, own_front _ _ _ e, front_in _ _ (own_front _ _ _ e), c.registers-m.auto.list, c.requires.found_len, c.requires.table_in_bounds_2) }
 
 pub headed-requires : goal.headed-requires
-headed-requires c = 
+headed-requires c =
     let e = c.registers-m.ensures _ c.group.ensures in let few = front_in _ _ (own_front _ _ _ e) in record { header_len_bound = omega arith; w_in_bounds = omega (arith, few, c.registers-m.auto.list, c.requires.found_len, c.requires.table_in_bounds_2, c.put_lines.auto.list); w_bound = omega arith; k_le_largest_count = omega (arith, few, c.registers-m.auto.list, c.requires.found_len, c.requires.sound.few) }
 
 pub returns : goal.returns

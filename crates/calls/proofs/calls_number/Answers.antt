@@ -4,6 +4,6 @@ use Rattle.calls.proofs.Saying.{says}
 use Rattle.calls.proofs.calls_number.Goals as goal
 
 pub returns : goal.returns
-returns c = 
+returns c =
     let e = c.number_answer.ensures ∙ ap number_answer c.number_in.ensures in
     says _ e c.write.ensures.1

@@ -4,5 +4,5 @@ use Rattle.calls.proofs.Saying.{leaves}
 use Rattle.calls.proofs.calls_numbers.Goals as goal
 
 pub returns : goal.returns
-returns c = 
+returns c =
     let whole = leaves _ (c.count_answer.ensures ∙ ap count_answer c.list.ensures.0, c.list.ensures.1) c.write.ensures.1 in record { list_after = whole.0; says = whole.1 }

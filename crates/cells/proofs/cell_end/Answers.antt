@@ -13,7 +13,7 @@ pub bounds-bytes-end : goal.bounds-bytes-end
 bounds-bytes-end c = omega arith
 
 pub returns-then-stops : goal.returns-then-stops
-returns-then-stops c = 
+returns-then-stops c =
     sym
     (c.loop-end.invariant ∙ (let e : end_of c.args.bytes.now c.loop-end.end ≡ c.loop-end.end = omega (arith, ap length (cell_stop c.args.bytes.now c.loop-end.end (omega arith) (sym c.stops.ensures ∙ c.if-stops.true))) in e))
 
@@ -24,11 +24,11 @@ pub loop-end-smaller : goal.loop-end-smaller
 loop-end-smaller c = omega arith
 
 pub loop-end-preserved : goal.loop-end-preserved
-loop-end-preserved c = 
+loop-end-preserved c =
     c.loop-end.invariant
     ∙ (let e : end_of c.args.bytes.now c.loop-end.end ≡ end_of c.args.bytes.now (c.loop-end.end + 1) = omega (arith, ap length (cell_on c.args.bytes.now c.loop-end.end (omega arith) (sym c.stops.ensures ∙ c.if-stops.false))) in e)
 
 pub returns : goal.returns
-returns c = 
+returns c =
     sym
     (c.loop-end.invariant ∙ (let e : end_of c.args.bytes.now c.loop-end.end ≡ c.loop-end.end = omega (arith, ap length (cell_none c.args.bytes.now c.loop-end.end (omega arith))) in e))

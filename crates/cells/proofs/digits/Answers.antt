@@ -11,7 +11,7 @@ pub bounds-bytes-i : goal.bounds-bytes-i
 bounds-bytes-i c = omega arith
 
 pub returns-in_default : goal.returns-in_default
-returns-in_default c = 
+returns-in_default c =
     c.broken_off.ensures
     ∙ cell_is _ _ _ _ (sym c.loop-i.invariant.ends) (sym (digits_off c.args.bytes.now c.args.at _ _ c.loop-i.invariant (omega arith) (sym c.appended-next.ensures ∙ c.in_default.is)))
 
@@ -25,5 +25,5 @@ pub loop-i-preserved : goal.loop-i-preserved
 loop-i-preserved c = digits_more _ _ _ _ c.loop-i.invariant (omega arith) _ (sym c.appended-next.ensures ∙ c.in-Is.is)
 
 pub returns : goal.returns
-returns c = 
+returns c =
     let z = digits_end _ _ _ _ c.loop-i.invariant (omega arith) in cell_is _ _ _ _ (sym z.0) (sym z.1)

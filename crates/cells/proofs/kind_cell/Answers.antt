@@ -7,7 +7,7 @@ use Rattle.cells.proofs.Reading.{cell_is, kind_other, kind_one, some_within}
 use Rattle.cells.proofs.kind_cell.Goals as goal
 
 pub returns-then-end-at-ne1 : goal.returns-then-end-at-ne1
-returns-then-end-at-ne1 c = 
+returns-then-end-at-ne1 c =
     cell_is _ _ _ _ c.cell_end-end.ensures
     (sym (kind_other c.args.bytes.now c.args.at (cell_at c.args.bytes.now c.args.at) (λ z. c.if-end-at-ne1.true (omega (arith, c.cell_end-end.ensures)))))
 
@@ -16,7 +16,7 @@ bounds-bytes-at c = some_within c.args.bytes.now c.args.at (omega (arith, c.cell
 
 pub returns : goal.returns
 unfolding kind_of
-returns c = 
+returns c =
     cell_is _ _ _ _
     c.cell_end-end.ensures
     (c.kind.ensures ∙ sym (ap kind_of (kind_one c.args.bytes.now c.args.at (omega (arith, c.cell_end-end.ensures)))))

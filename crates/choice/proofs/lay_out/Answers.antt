@@ -3,7 +3,7 @@ use Rattle.choice.proofs.Offers.{behind_fits, middle_fits, front_fits, all_laid}
 use Rattle.choice.proofs.lay_out.Goals as goal
 
 pub put-k-requires : goal.put-k-requires
-put-k-requires c = 
+put-k-requires c =
     let whole = behind_fits c.args.forwards.now _ c.args.flip c.args.swap _ _ c.end_at-behind.ensures c.end_at-front.ensures _ c.requires in record { k_in_bounds = whole.0; k_in_bounds_2 = whole.1 }
 
 pub turn-m-requires : goal.turn-m-requires

@@ -9,12 +9,12 @@ pub overflow_sub-j : goal.overflow_sub-j
 overflow_sub-j c = omega arith
 
 pub offset_bounds-list-at : goal.offset_bounds-list-at
-offset_bounds-list-at c = 
+offset_bounds-list-at c =
     let p = back_place _ _ _ _ _ _ _ c.loop-i.invariant (omega arith) in
     omega (arith, p, c.turned-at.ensures)
 
 pub bounds-list-at : goal.bounds-list-at
-bounds-list-at c = 
+bounds-list-at c =
     let p = back_place _ _ _ _ _ _ _ c.loop-i.invariant (omega arith) in
     omega (arith, p, c.turned-at.ensures)
 

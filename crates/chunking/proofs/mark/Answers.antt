@@ -22,7 +22,7 @@ pub loop-i-smaller : goal.loop-i-smaller
 loop-i-smaller c = omega arith
 
 pub loop-i-preserved : goal.loop-i-preserved
-loop-i-preserved c = 
+loop-i-preserved c =
     let b = c.requires c.loop-i.i (omega arith) in
     mark_on _ _ _ _ c.loop-i.invariant (omega arith) (omega (arith, b, c.loop-i.invariant.long))
 

@@ -33,7 +33,7 @@ pub slice_bounds-mark-end-in-loop-a : goal.slice_bounds-mark-end-in-loop-a
 slice_bounds-mark-end-in-loop-a c = sym (length-take-le _ _ (omega (arith, c.enclose-found.ensures.few, c.requires.backwards_in_bounds, c.loop-a.invariant.1, c.enclose-found.auto.out)))
 
 pub mark-requires : goal.mark-requires
-mark-requires c = 
+mark-requires c =
     let f = found_small _ _ _ _ c.requires.by_index c.enclose-found.ensures.written in
     λ i l. omega (arith, f i l, c.loop-a.invariant.0.long)
 

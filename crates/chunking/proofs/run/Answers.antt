@@ -31,7 +31,7 @@ pub zone_of-y-requires : goal.zone_of-y-requires
 zone_of-y-requires c = record { w_in_bounds = c.requires.inside c.loop-i.i (omega arith); late_len = c.requires.late_len }
 
 pub returns-then-top-low : goal.returns-then-top-low
-returns-then-top-low c = 
+returns-then-top-low c =
     let q = rw (c.low.ensures, c.zone_of-y.ensures) at c.if-top-low.true in
     run_stop _ _ _ _ _ _ _ c.loop-i.invariant (omega arith) q
 
@@ -42,7 +42,7 @@ pub loop-i-smaller : goal.loop-i-smaller
 loop-i-smaller c = omega arith
 
 pub loop-i-preserved : goal.loop-i-preserved
-loop-i-preserved c = 
+loop-i-preserved c =
     let q = rw (c.low.ensures, c.zone_of-y.ensures) at c.if-top-low.false in
     run_on _ _ _ _ _ _ _ c.loop-i.invariant (omega arith) q _ (c.larger-top.ensures ∙ rw (c.high.ensures, c.zone_of-y.ensures))
 

@@ -9,7 +9,7 @@ pub slice_bounds-days_in-end : goal.slice_bounds-days_in-end
 slice_bounds-days_in-end c = sym (length-take-le _ _ (omega arith))
 
 pub returns : goal.returns
-returns c = 
+returns c =
     read_parts c.args.text.now _ refl _ _ _ _ _ _ _ _ _
     c.days_in-days.ensures
     c.field.ensures

@@ -38,7 +38,7 @@ pub loop-place-smaller : goal.loop-place-smaller
 loop-place-smaller c = omega arith
 
 pub loop-place-preserved : goal.loop-place-preserved
-loop-place-preserved c = 
+loop-place-preserved c =
     rising_more _ _ _ _ _ (omega arith) c.loop-place.invariant
     (c.time-time.ensures ∙ ap (λ o. time_of (starting o)) c.at-o.ensures) (omega (arith, c.if-first-time.false))
 

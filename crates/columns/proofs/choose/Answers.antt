@@ -44,21 +44,19 @@ pub loop-i-smaller-then-writer-at : goal.loop-i-smaller-then-writer-at
 loop-i-smaller-then-writer-at c = omega arith
 
 pub loop-i-preserved-then-writer-at : goal.loop-i-preserved-then-writer-at
-loop-i-preserved-then-writer-at c = 
-    (
-      omega arith,
-      gather_in _ _ _ _ _ _ _ _ c.loop-i.invariant.1 _ (omega (arith, c.shared_slice_known-1.given c.loop-i.i)) (omega arith) (eq-eqb _ _ c.if-writer-at.true) (omega arith),
-    )
+loop-i-preserved-then-writer-at c = (
+  omega arith,
+  gather_in _ _ _ _ _ _ _ _ c.loop-i.invariant.1 _ (omega (arith, c.shared_slice_known-1.given c.loop-i.i)) (omega arith) (eq-eqb _ _ c.if-writer-at.true) (omega arith),
+)
 
 pub loop-i-smaller : goal.loop-i-smaller
 loop-i-smaller c = omega arith
 
 pub loop-i-preserved : goal.loop-i-preserved
-loop-i-preserved c = 
-    (
-      omega arith,
-      gather_out _ _ _ _ _ _ _ _ c.loop-i.invariant.1 _ (omega (arith, c.shared_slice_known-1.given c.loop-i.i)) (omega arith) (ne_eqb _ _ c.if-writer-at.false),
-    )
+loop-i-preserved c = (
+  omega arith,
+  gather_out _ _ _ _ _ _ _ _ c.loop-i.invariant.1 _ (omega (arith, c.shared_slice_known-1.given c.loop-i.i)) (omega arith) (ne_eqb _ _ c.if-writer-at.false),
+)
 
 pub shape_of-keys : goal.shape_of-keys
 shape_of-keys c = c.loop-i.invariant.1.wide

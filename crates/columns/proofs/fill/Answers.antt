@@ -14,7 +14,7 @@ pub shorten-requires : goal.shorten-requires
 shorten-requires c = shorten_asks c.requires.by_index.1 _ _ _ c.ranks.ensures c.writers.ensures
 
 pub link-requires : goal.link-requires
-link-requires c = 
+link-requires c =
     let whole = link_asks c.requires.by_index.1 _ c.args.last.now _ c.ranks.new.list c.writers.ensures c.clear.ensures c.requires.room.room_last (omega (arith, c.requires.room.room_prev)) in record { by_index = whole.0; last_len = whole.1.0; by_index_2 = whole.1.1.0; prev_len = whole.1.1.1 }
 
 pub returns : goal.returns

@@ -12,47 +12,47 @@ pub overflow_sub-j : goal.overflow_sub-j
 overflow_sub-j c = omega arith
 
 pub offset_bounds-writer-at : goal.offset_bounds-writer-at
-offset_bounds-writer-at c = 
+offset_bounds-writer-at c =
     let g = c.loop-j.invariant c.requires.0 c.requires.1 in
     omega (arith, g.within, g.long, c.requires.1.tied.long)
 
 pub bounds-writer-at : goal.bounds-writer-at
-bounds-writer-at c = 
+bounds-writer-at c =
     let g = c.loop-j.invariant c.requires.0 c.requires.1 in
     omega (arith, g.within, g.long, c.requires.1.tied.long)
 
 pub offset_bounds-finish-at : goal.offset_bounds-finish-at
-offset_bounds-finish-at c = 
+offset_bounds-finish-at c =
     let g = c.loop-j.invariant c.requires.0 c.requires.1 in
     omega (arith, g.within, g.long, c.requires.1.tied.long)
 
 pub bounds-finish-at : goal.bounds-finish-at
-bounds-finish-at c = 
+bounds-finish-at c =
     let g = c.loop-j.invariant c.requires.0 c.requires.1 in
     omega (arith, g.within, g.long, c.requires.1.tied.long)
 
 pub offset_bounds-finish-w : goal.offset_bounds-finish-w
-offset_bounds-finish-w c = 
+offset_bounds-finish-w c =
     let g = c.loop-j.invariant c.requires.0 c.requires.1 in
     omega (arith, c.requires.1.tied.inside (c.loop-j.j - 1) (omega (arith, g.within)), g.within, g.long, c.requires.1.tied.long)
 
 pub bounds-finish-w : goal.bounds-finish-w
-bounds-finish-w c = 
+bounds-finish-w c =
     let g = c.loop-j.invariant c.requires.0 c.requires.1 in
     omega (arith, c.requires.1.tied.inside (c.loop-j.j - 1) (omega (arith, g.within)), g.within, g.long, c.requires.1.tied.long)
 
 pub lowered-requires : goal.lowered-requires
-lowered-requires c = 
+lowered-requires c =
     let g = c.loop-j.invariant c.requires.0 c.requires.1 in
     cut_positive c.requires.0 _ c.requires.1.tied _ (omega arith) _ g c.if-w-at.true c.requires.1.above
 
 pub offset_bounds-finish-w-then-w-at : goal.offset_bounds-finish-w-then-w-at
-offset_bounds-finish-w-then-w-at c = 
+offset_bounds-finish-w-then-w-at c =
     let g = c.loop-j.invariant c.requires.0 c.requires.1 in
     omega (arith, c.requires.1.tied.inside (c.loop-j.j - 1) (omega (arith, g.within)), g.within, g.long, c.requires.1.tied.long)
 
 pub bounds-finish-w-then-w-at : goal.bounds-finish-w-then-w-at
-bounds-finish-w-then-w-at c = 
+bounds-finish-w-then-w-at c =
     let g = c.loop-j.invariant c.requires.0 c.requires.1 in
     omega (arith, c.requires.1.tied.inside (c.loop-j.j - 1) (omega (arith, g.within)), g.within, g.long, c.requires.1.tied.long)
 
@@ -69,7 +69,7 @@ pub loop-j-preserved : goal.loop-j-preserved
 loop-j-preserved c = λ H u. cut_write H _ u.tied _ (omega arith) _ (c.loop-j.invariant H u) c.if-w-at.false
 
 pub shape_of-finish : goal.shape_of-finish
-shape_of-finish c = 
+shape_of-finish c =
     let g = c.loop-j.invariant c.requires.0 c.requires.1 in
     g.long ∙ sym (ap length c.requires.1.doubled ∙ length-map c.requires.0 _)
 

@@ -13,7 +13,7 @@ lowest-requires c = c.requires
 
 pub returns-in-At : goal.returns-in-At
 unfolding or_test
-returns-in-At c = 
+returns-in-At c =
     rw (eq-eqb c.args.answer.code 0 c.if-answer-ne0.false, ← c.lowest.ensures, c.in-At.is)
     (c.refused.ensures ∙ ap (λ (n : ℕ). refused_by n c.in-At.row) c.code.ensures)
 

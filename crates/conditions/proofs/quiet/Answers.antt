@@ -30,7 +30,7 @@ pub returns-then-reopens : goal.returns-then-reopens
 returns-then-reopens c = λ q. absurd (both q refl)
 
 pub returns-then-is_write : goal.returns-then-is_write
-returns-then-is_write c = 
+returns-then-is_write c =
     λ q.
     let l = leb-true c.args.i c.entry-w.result q in
     quiet_write c.args.table.now c.args.rows.now c.args.writer.now c.args.i (ap wrong_kind (sym c.at-o.ensures) ∙ sym c.wrong_kind.ensures ∙ c.if-wrong_kind.false) (ap wrong_span (sym c.at-o.ensures) ∙ sym c.wrong_span.ensures ∙ c.if-wrong_span.false)
@@ -41,7 +41,7 @@ pub at-requires : goal.at-requires
 at-requires c = c.requires.listed.within _ (get_d_in c.args.rows.now 0 c.entry-w.result (omega arith))
 
 pub returns-then-w-rows : goal.returns-then-w-rows
-returns-then-w-rows c = 
+returns-then-w-rows c =
     λ q.
     quiet_other c.args.table.now c.args.rows.now c.args.writer.now c.args.i (ap wrong_kind (sym c.at-o.ensures) ∙ sym c.wrong_kind.ensures ∙ c.if-wrong_kind.false) (ap wrong_span (sym c.at-o.ensures) ∙ sym c.wrong_span.ensures ∙ c.if-wrong_span.false)
     (ap (λ o. is_opening o && ltb (first_opening c.args.table.now c.args.rows.now) c.args.i) (sym c.at-o.ensures) ∙ sym c.reopens.ensures ∙ c.if-reopens.false)

@@ -16,6 +16,6 @@ pub or_test-requires : goal.or_test-requires
 or_test-requires c = c.requires.listed
 
 pub returns : goal.returns
-returns c = 
+returns c =
     rw (c.or_test.ensures, c.or_test-orphan.ensures, c.or_test-twin.ensures, c.or_test-again.ensures, c.or_test-span.ensures, c.or_test-kind.ensures, c.passed-none.ensures)
     (rows_examined _ _ _ c.requires.listed c.requires.writer_value c.args.rows.now)

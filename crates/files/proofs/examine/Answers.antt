@@ -9,24 +9,24 @@ use Rattle.files.proofs.examine.Goals as goal
 
 pub returns-then-table-ne0 : goal.returns-then-table-ne0
 unfolding first_met write_tests
-returns-then-table-ne0 c = 
+returns-then-table-ne0 c =
     let size = length c.args.table.now in
     rw (ne_eqb (size % 5) 0 c.if-table-ne0.true) c.refused.ensures
 
 pub returns-then-table-gt-LARGEST_COUNT : goal.returns-then-table-gt-LARGEST_COUNT
 unfolding first_met write_tests
-returns-then-table-gt-LARGEST_COUNT c = 
+returns-then-table-gt-LARGEST_COUNT c =
     let size = length c.args.table.now in
     rw (eq-eqb (size % 5) 0 c.if-table-ne0.false, lt-ltb largest_count (size / 5) c.if-table-gt-LARGEST_COUNT.true) c.refused-then-table-gt-LARGEST_COUNT.ensures
 
 pub returns-in-At : goal.returns-in-At
 unfolding first_met write_tests
-returns-in-At c = 
+returns-in-At c =
     let size = length c.args.table.now in
     rw (eq-eqb (size % 5) 0 c.if-table-ne0.false, le-ltb largest_count (size / 5) c.if-table-gt-LARGEST_COUNT.false, ← c.lowest_wrong.ensures, c.in-At.is) c.refused-in-At.ensures
 
 pub returns-in-Nothing : goal.returns-in-Nothing
 unfolding first_met write_tests
-returns-in-Nothing c = 
+returns-in-Nothing c =
     let size = length c.args.table.now in
     rw (eq-eqb (size % 5) 0 c.if-table-ne0.false, le-ltb largest_count (size / 5) c.if-table-gt-LARGEST_COUNT.false, ← c.lowest_wrong.ensures, c.in-Nothing.is) c.examine_stamps.ensures

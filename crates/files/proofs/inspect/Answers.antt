@@ -16,14 +16,14 @@ pub returns-then-found-ne-FRESH : goal.returns-then-found-ne-FRESH
 returns-then-found-ne-FRESH c = inspect_hit _ _ _ c.loop-at.invariant (omega arith) _ c.inspect_record-found.ensures c.if-found-ne-FRESH.true
 
 pub next-at-requires : goal.next-at-requires
-next-at-requires c = 
+next-at-requires c =
     let p = inspect_passes _ _ _ c.loop-at.invariant (omega arith) _ c.inspect_record-found.ensures c.if-found-ne-FRESH.false in omega (arith, p.stands.whole, least_length (field c.args.bytes.now (c.loop-at.at + 2) 2))
 
 pub overflow_add-i : goal.overflow_add-i
 overflow_add-i c = omega (arith, c.loop-at.invariant.few)
 
 pub loop-at-smaller : goal.loop-at-smaller
-loop-at-smaller c = 
+loop-at-smaller c =
     let p = inspect_passes _ _ _ c.loop-at.invariant (omega arith) _ c.inspect_record-found.ensures c.if-found-ne-FRESH.false in omega (arith, c.next-at.ensures)
 
 pub loop-at-preserved : goal.loop-at-preserved

@@ -22,7 +22,7 @@ pub slice_bounds-part-end-2 : goal.slice_bounds-part-end-2
 slice_bounds-part-end-2 c = sym (length-take-le c.by_low-m.result _ (omega (arith, c.by_low-m.ensures.upper_bound, c.by_low-m.auto.list, c.requires.sound.shape.long, c.requires.list_room)))
 
 pub part-f-requires : goal.part-f-requires
-part-f-requires c = 
+part-f-requires c =
     let z = lates_zoned _ c.requires.sound _ c.by_low-m.ensures.lates in
     record { inside = rw c.by_low-m.ensures.list_after (by_low_inside _ _ _ (c.requires.sound.ending ∙ sym c.requires.sound.shape.long)); late_len = late_long _ c.requires.sound _ z; list_in_bounds = omega (arith, ap length c.by_low-m.ensures.list_after, by_low_length c.args.finish.now c.by_low-m.new.late c.args.writer.now, c.requires.sound.shape.long, c.requires.forwards_room) }
 
@@ -33,32 +33,32 @@ pub slice_bounds-part-end-4 : goal.slice_bounds-part-end-4
 slice_bounds-part-end-4 c = sym (length-take-le c.by_low-m.result _ (omega (arith, c.by_low-m.ensures.upper_bound, c.by_low-m.auto.list, c.requires.sound.shape.long, c.requires.list_room)))
 
 pub part-b-requires : goal.part-b-requires
-part-b-requires c = 
+part-b-requires c =
     let z = lates_zoned _ c.requires.sound _ c.by_low-m.ensures.lates in
     record { inside = rw c.by_low-m.ensures.list_after (by_low_inside _ _ _ (c.requires.sound.ending ∙ sym c.requires.sound.shape.long)); late_len = late_long _ c.requires.sound _ z; list_in_bounds = omega (arith, ap length c.by_low-m.ensures.list_after, by_low_length c.args.finish.now c.by_low-m.new.late c.args.writer.now, c.requires.sound.shape.long, c.requires.backwards_room) }
 
 pub slice_bounds-sides-end : goal.slice_bounds-sides-end
-slice_bounds-sides-end c = 
+slice_bounds-sides-end c =
     let w = by_low_length c.args.finish.now c.by_low-m.new.late c.args.writer.now in
     (omega (arith, c.part-f.ensures.0, c.part-f.auto.out, ap length c.by_low-m.ensures.list_after, w, c.requires.sound.shape.long, c.requires.forwards_room))
 
 pub slice_bounds-sides-end-2 : goal.slice_bounds-sides-end-2
-slice_bounds-sides-end-2 c = 
+slice_bounds-sides-end-2 c =
     let w = by_low_length c.args.finish.now c.by_low-m.new.late c.args.writer.now in
     sym (length-take-le c.part-f.result _ (omega (arith, c.part-f.ensures.0, c.part-f.auto.out, ap length c.by_low-m.ensures.list_after, w, c.requires.sound.shape.long, c.requires.forwards_room)))
 
 pub slice_bounds-sides-end-3 : goal.slice_bounds-sides-end-3
-slice_bounds-sides-end-3 c = 
+slice_bounds-sides-end-3 c =
     let w = by_low_length c.args.finish.now c.by_low-m.new.late c.args.writer.now in
     (omega (arith, c.part-b.ensures.0, c.part-b.auto.out, ap length c.by_low-m.ensures.list_after, w, c.requires.sound.shape.long, c.requires.backwards_room))
 
 pub slice_bounds-sides-end-4 : goal.slice_bounds-sides-end-4
-slice_bounds-sides-end-4 c = 
+slice_bounds-sides-end-4 c =
     let w = by_low_length c.args.finish.now c.by_low-m.new.late c.args.writer.now in
     sym (length-take-le c.part-b.result _ (omega (arith, c.part-b.ensures.0, c.part-b.auto.out, ap length c.by_low-m.ensures.list_after, w, c.requires.sound.shape.long, c.requires.backwards_room)))
 
 pub sides-requires : goal.sides-requires
-sides-requires c = 
+sides-requires c =
     let z = lates_zoned _ c.requires.sound _ c.by_low-m.ensures.lates in
     let x = c.part-f.ensures.1 ∙ ap (keep (faces c.args.finish.now c.by_low-m.new.late true)) c.by_low-m.ensures.list_after in
     let y = c.part-b.ensures.1 ∙ ap (keep (faces c.args.finish.now c.by_low-m.new.late false)) c.by_low-m.ensures.list_after in

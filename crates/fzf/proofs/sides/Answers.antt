@@ -6,7 +6,7 @@ use Rattle.joining.proofs.Chunks.{sides_few, both_sides}
 use Rattle.fzf.proofs.sides.Goals as goal
 
 pub mark_inner-requires : goal.mark_inner-requires
-mark_inner-requires c = 
+mark_inner-requires c =
     let s = both_sides _ c.requires.sound _ c.requires.zoned _ _ c.requires.forwards_value c.requires.backwards_value in
     record { sides = s; backwards_in_bounds = omega (arith, ap length c.requires.backwards_value, sides_few _ c.requires.sound _ c.requires.zoned, c.requires.lent.inner); by_index = (λ i l. omega (arith, s.back i l, c.requires.sound.ending, c.requires.marks_room)); by_index_2 = c.requires.free }
 

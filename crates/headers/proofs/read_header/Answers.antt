@@ -27,7 +27,7 @@ pub overflow_add-result : goal.overflow_add-result
 overflow_add-result c = omega (arith, head_within _ _ _ _ c.loop-named.invariant c.cell_end-end.result c.cell_end-end.ensures)
 
 pub returns-then-not-comma_at : goal.returns-then-not-comma_at
-returns-then-not-comma_at c = 
+returns-then-not-comma_at c =
     let found = c.named_at-named.ensures ∙ ap (λ (t : List ℕ). named_with c.loop-named.named t c.loop-named.k) (cell_part c.args.bytes.now c.loop-named.at c.cell_end-end.result c.cell_end-end.ensures) in
     rw (c.places_of.ensures, c.sound.ensures, found)
     (head_end c.args.bytes.now _ _ _ c.loop-named.invariant c.cell_end-end.result c.cell_end-end.ensures (sym c.comma_at.ensures ∙ c.if-not-comma_at.true))
@@ -39,7 +39,7 @@ pub loop-named-smaller : goal.loop-named-smaller
 loop-named-smaller c = omega (arith, c.cell_end-end.ensures, c.loop-named.invariant.within)
 
 pub loop-named-preserved : goal.loop-named-preserved
-loop-named-preserved c = 
+loop-named-preserved c =
     let found = c.named_at-named.ensures ∙ ap (λ (t : List ℕ). named_with c.loop-named.named t c.loop-named.k) (cell_part c.args.bytes.now c.loop-named.at c.cell_end-end.result c.cell_end-end.ensures) in
     rw found
     (head_more c.args.bytes.now _ _ _ c.loop-named.invariant c.cell_end-end.result c.cell_end-end.ensures (sym c.comma_at.ensures ∙ c.if-not-comma_at.false))

@@ -52,7 +52,7 @@ pub loop-e-smaller-then-place-gt0 : goal.loop-e-smaller-then-place-gt0
 loop-e-smaller-then-place-gt0 c = omega arith
 
 pub loop-e-preserved-then-place-gt0 : goal.loop-e-preserved-then-place-gt0
-loop-e-preserved-then-place-gt0 c = 
+loop-e-preserved-then-place-gt0 c =
     let f = c.find-seen.ensures.found (omega arith) (omega arith) in
     hash_found _ _ _ _ _ c.requires _ _ _ _ c.loop-e.invariant (omega arith) _ f.0 f.1
 
@@ -87,7 +87,7 @@ pub loop-e-smaller : goal.loop-e-smaller
 loop-e-smaller c = omega arith
 
 pub loop-e-preserved : goal.loop-e-preserved
-loop-e-preserved c = 
+loop-e-preserved c =
     let f = c.find-seen.ensures.new (omega arith) (omega arith) in
     hash_new _ _ _ _ _ c.requires _ _ _ _ c.loop-e.invariant (omega arith) _ c.bucket-h.ensures.0 c.bucket-h.ensures.1 f
 

@@ -22,11 +22,11 @@ pub slice_bounds-choose-end-2 : goal.slice_bounds-choose-end-2
 slice_bounds-choose-end-2 c = sym (length-take-le _ _ (omega (arith, c.enclose-found.ensures.few, ap length c.requires.backwards_value, sides_few _ c.requires.sound _ c.requires.zoned, c.requires.few, c.enclose-found.auto.out, c.requires.lent.inner)))
 
 pub choose-front-requires : goal.choose-front-requires
-choose-front-requires c = 
+choose-front-requires c =
     let i = c.enclose-found.ensures.written ∙ ap (keep (lies _ _ _ _)) c.requires.backwards_value in
     record { sound = c.requires.sound; chunk = rw i (chunk_choice _ c.requires.sound c.requires.few _ c.requires.zoned _ c.requires.cut _ c.args.top c.low_end-bottom.ensures _ _ _ _ c.requires.lent); shut = c.requires.shut }
 
 pub returns : goal.returns
-returns c = 
+returns c =
     let i = c.enclose-found.ensures.written ∙ ap (keep (lies _ _ _ _)) c.requires.backwards_value in
     record { order = chunk_made _ c.requires.sound c.requires.few _ c.requires.zoned _ c.requires.cut _ c.args.top c.low_end-bottom.ensures _ _ (rw i at c.choose-front.ensures.end); marks = c.choose-front.ensures.marks; next = λ limit x y. c.enclose-found.ensures.behind limit (omega (arith, c.low_end-bottom.ensures)) y }

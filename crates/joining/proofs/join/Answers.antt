@@ -12,7 +12,7 @@ pub loop-m-init : goal.loop-m-init
 loop-m-init c = (join_none _ _ c.requires.zoned _ c.requires.order_room, poised_none _ _ _ _ _ c.requires.shut, c.requires.lent, refl, refl, refl, refl, refl)
 
 pub skip-j-requires : goal.skip-j-requires
-skip-j-requires c = 
+skip-j-requires c =
     let n : Inside c.args.finish.now c.args.backwards.now = rw c.requires.backwards_value (sides_inside _ c.requires.sound _ c.requires.zoned false) in
     record { by_index = (λ i l. omega (arith, n i l, c.requires.sound.ending, c.requires.few, c.requires.start_in_bounds)); j_in_bounds = rw c.requires.backwards_value c.loop-m.invariant.0.back }
 
@@ -32,14 +32,14 @@ pub shape_of-order-then-over : goal.shape_of-order-then-over
 shape_of-order-then-over c = c.loop-m.invariant.7
 
 pub returns-then-over : goal.returns-then-over
-returns-then-over c = 
+returns-then-over c =
     let s = rw (c.requires.forwards_value, c.requires.backwards_value) at (c.skip-j.ensures c.args.finish.now c.args.late.now c.args.forwards.now c.requires.hangs) in
     let k = join_skip _ _ c.requires.zoned _ _ _ _ c.loop-m.invariant.0 _ s in
     let o = rw (c.requires.forwards_value, c.requires.backwards_value) at (over_true _ _ _ _ (sym c.over.ensures ∙ c.if-over.true)) in
     join_end _ _ c.requires.zoned _ _ _ _ k o.0 o.1
 
 pub item-next-requires : goal.item-next-requires
-item-next-requires c = 
+item-next-requires c =
     let s = rw (c.requires.forwards_value, c.requires.backwards_value) at (c.skip-j.ensures c.args.finish.now c.args.late.now c.args.forwards.now c.requires.hangs) in
     let o = rw (c.requires.forwards_value, c.requires.backwards_value) at (sym c.over.ensures ∙ c.if-over.false) in
     record { sound = c.requires.sound; few = c.requires.few; zoned = c.requires.zoned; forwards_value = c.requires.forwards_value; backwards_value = c.requires.backwards_value; waiting = rw (c.requires.forwards_value, c.requires.backwards_value) (join_waits _ _ c.requires.zoned _ _ _ _ c.loop-m.invariant.0 _ s o); poised = rw (c.requires.forwards_value, c.requires.backwards_value) c.loop-m.invariant.1; lent = c.loop-m.invariant.2 }
@@ -60,33 +60,33 @@ pub shape_of-order-then-next : goal.shape_of-order-then-next
 shape_of-order-then-next c = c.loop-m.invariant.7
 
 pub returns-then-next : goal.returns-then-next
-returns-then-next c = 
+returns-then-next c =
     let s = rw (c.requires.forwards_value, c.requires.backwards_value) at (c.skip-j.ensures c.args.finish.now c.args.late.now c.args.forwards.now c.requires.hangs) in
     let k = join_skip _ _ c.requires.zoned _ _ _ _ c.loop-m.invariant.0 _ s in
     join_fails _ _ c.requires.zoned _ _ _ _ k _ _ (rw (c.requires.forwards_value, c.requires.backwards_value) at c.item-next.ensures.end) c.if-next.true _
 
 pub offset_bounds-part-at : goal.offset_bounds-part-at
-offset_bounds-part-at c = 
+offset_bounds-part-at c =
     let g = goes_on (rw (c.requires.forwards_value, c.requires.backwards_value) at c.item-next.ensures.end) c.if-next.false in
     omega (arith, g.holds.high, c.item-next.auto.part, c.loop-m.invariant.6, c.well_formed.1.1.1.1.1.1.1.1.1.1.1.1.0.1)
 
 pub slice_bounds-append-count : goal.slice_bounds-append-count
-slice_bounds-append-count c = 
+slice_bounds-append-count c =
     let g = goes_on (rw (c.requires.forwards_value, c.requires.backwards_value) at c.item-next.ensures.end) c.if-next.false in
     g.holds.high
 
 pub slice_bounds-append-start : goal.slice_bounds-append-start
-slice_bounds-append-start c = 
+slice_bounds-append-start c =
     let g = goes_on (rw (c.requires.forwards_value, c.requires.backwards_value) at c.item-next.ensures.end) c.if-next.false in
     omega (arith, g.holds.high)
 
 pub slice_bounds-append-end : goal.slice_bounds-append-end
-slice_bounds-append-end c = 
+slice_bounds-append-end c =
     let g = goes_on (rw (c.requires.forwards_value, c.requires.backwards_value) at c.item-next.ensures.end) c.if-next.false in
     omega (arith, g.holds.high)
 
 pub append-m-requires : goal.append-m-requires
-append-m-requires c = 
+append-m-requires c =
     let s = rw (c.requires.forwards_value, c.requires.backwards_value) at (c.skip-j.ensures c.args.finish.now c.args.late.now c.args.forwards.now c.requires.hangs) in
     let k = join_skip _ _ c.requires.zoned _ _ _ _ c.loop-m.invariant.0 _ s in
     let g = goes_on (rw (c.requires.forwards_value, c.requires.backwards_value) at c.item-next.ensures.end) c.if-next.false in
@@ -94,13 +94,13 @@ append-m-requires c =
     rw (part_whole c.item-next.new.part c.item-next.result.at) (omega (arith, few, c.loop-m.invariant.0.long))
 
 pub loop-m-smaller : goal.loop-m-smaller
-loop-m-smaller c = 
+loop-m-smaller c =
     let s = rw (c.requires.forwards_value, c.requires.backwards_value) at (c.skip-j.ensures c.args.finish.now c.args.late.now c.args.forwards.now c.requires.hangs) in
     let g = goes_on (rw (c.requires.forwards_value, c.requires.backwards_value) at c.item-next.ensures.end) c.if-next.false in
     omega (arith, g.on, g.forth, g.back, s.from, ap length c.requires.forwards_value, ap length c.requires.backwards_value)
 
 pub loop-m-preserved : goal.loop-m-preserved
-loop-m-preserved c = 
+loop-m-preserved c =
     let s = rw (c.requires.forwards_value, c.requires.backwards_value) at (c.skip-j.ensures c.args.finish.now c.args.late.now c.args.forwards.now c.requires.hangs) in
     let k = join_skip _ _ c.requires.zoned _ _ _ _ c.loop-m.invariant.0 _ s in
     let g = goes_on (rw (c.requires.forwards_value, c.requires.backwards_value) at c.item-next.ensures.end) c.if-next.false in

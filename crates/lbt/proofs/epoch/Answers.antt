@@ -11,22 +11,22 @@ pub step-next-requires : goal.step-next-requires
 step-next-requires c = record { sound = c.requires.sound; holds = c.loop-from.invariant.holds; whose = c.loop-from.invariant.whose }
 
 pub offset_bounds-order-from : goal.offset_bounds-order-from
-offset_bounds-order-from c = 
+offset_bounds-order-from c =
     let a = run_room _ c.requires.sound _ _ _ _ c.loop-from.invariant c.requires.holds _ c.step-next.ensures in
     omega (arith, a.0, a.1.0, a.1.1, c.well_formed.1.1.1.1.1.1.0.1)
 
 pub slice_bounds-clear-count : goal.slice_bounds-clear-count
-slice_bounds-clear-count c = 
+slice_bounds-clear-count c =
     let a = run_room _ c.requires.sound _ _ _ _ c.loop-from.invariant c.requires.holds _ c.step-next.ensures in
     omega (arith, a.0, a.1.0, a.1.1)
 
 pub slice_bounds-clear-start : goal.slice_bounds-clear-start
-slice_bounds-clear-start c = 
+slice_bounds-clear-start c =
     let a = run_room _ c.requires.sound _ _ _ _ c.loop-from.invariant c.requires.holds _ c.step-next.ensures in
     omega (arith, a.0, a.1.0, a.1.1)
 
 pub slice_bounds-clear-end : goal.slice_bounds-clear-end
-slice_bounds-clear-end c = 
+slice_bounds-clear-end c =
     let a = run_room _ c.requires.sound _ _ _ _ c.loop-from.invariant c.requires.holds _ c.step-next.ensures in
     omega (arith, a.0, a.1.0, a.1.1)
 

@@ -39,7 +39,7 @@ pub overflow_add-count : goal.overflow_add-count
 overflow_add-count c = omega arith
 
 pub epoch-tried-requires : goal.epoch-tried-requires
-epoch-tried-requires c = 
+epoch-tried-requires c =
     let rest = turn_whose _ c.requires.sound _ c.requires.holds _ c.requires.lowest _ _ _ c.requires.falling_value _ _ _ _ c.candidates.invariant (omega arith) (omega arith) in record { sound = c.requires.sound; holds = rest.0; whose = rest.1 }
 
 pub candidates-smaller-in_default : goal.candidates-smaller-in_default

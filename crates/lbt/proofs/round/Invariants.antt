@@ -6,7 +6,7 @@ use Rattle.lbt.proofs.Turning.{Turning}
 use Rattle.lbt.proofs.round.Given as goal
 
 abbrev pub invariant-candidates : goal.invariant-candidates
-invariant-candidates l =     Turning (cols l.start l.finish l.writer l.last l.prev) (state_of l.initial.placed l.initial.order l.at l.top) l.low l.trials l.allowance l.falling l.placed l.order l.i l.count
+invariant-candidates l = Turning (cols l.start l.finish l.writer l.last l.prev) (state_of l.initial.placed l.initial.order l.at l.top) l.low l.trials l.allowance l.falling l.placed l.order l.i l.count
 
 abbrev pub decreases-candidates : goal.decreases-candidates
-decreases-candidates l =     l.n - l.i
+decreases-candidates l = l.n - l.i

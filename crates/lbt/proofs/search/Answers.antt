@@ -26,7 +26,7 @@ pub highest-top-requires : goal.highest-top-requires
 highest-top-requires c = omega (arith, c.loop-low.invariant.holds.ready.within, c.loop-low.invariant.holds.ready.marks)
 
 pub round-turn-requires : goal.round-turn-requires
-round-turn-requires c = 
+round-turn-requires c =
     let g = walk_lower _ c.requires.sound c.requires.few _ c.requires.falling_value _ _ _ _ _ _ c.loop-low.invariant _ c.highest-top.ensures in
     record { sound = c.requires.sound; holds = g.holds; falling_value = c.requires.falling_value; lowest = walk_lowest _ c.requires.sound c.requires.few _ c.requires.falling_value _ _ _ _ _ _ g _ c.newest-low.ensures c.if-low-eq0.false; low_in_bounds = walk_low _ c.requires.sound c.requires.few _ c.requires.falling_value _ _ _ _ _ _ g _ c.newest-low.ensures; skipped = c.first-from.ensures; trials_le_allowance = g.small }
 
@@ -37,7 +37,7 @@ pub shape_of-order-in-Lost : goal.shape_of-order-in-Lost
 shape_of-order-in-Lost c = c.round-turn.auto.order ∙ c.loop-low.invariant.added.cells
 
 pub returns-in-Lost : goal.returns-in-Lost
-returns-in-Lost c = 
+returns-in-Lost c =
     let g = walk_lower _ c.requires.sound c.requires.few _ c.requires.falling_value _ _ _ _ _ _ c.loop-low.invariant _ c.highest-top.ensures in
     walk_stale _ c.requires.sound c.requires.few _ c.requires.falling_value _ _ _ _ _ _ g _ c.newest-low.ensures c.if-low-eq0.false (rw c.in-Lost.is at c.round-turn.ensures) _
 
@@ -48,16 +48,16 @@ pub shape_of-order-in-Spent : goal.shape_of-order-in-Spent
 shape_of-order-in-Spent c = c.round-turn.auto.order ∙ c.loop-low.invariant.added.cells
 
 pub returns-in-Spent : goal.returns-in-Spent
-returns-in-Spent c = 
+returns-in-Spent c =
     let g = walk_lower _ c.requires.sound c.requires.few _ c.requires.falling_value _ _ _ _ _ _ c.loop-low.invariant _ c.highest-top.ensures in
     walk_spent _ c.requires.sound c.requires.few _ c.requires.falling_value _ _ _ _ _ _ g _ c.newest-low.ensures c.if-low-eq0.false (rw c.in-Spent.is at c.round-turn.ensures) _
 
 pub loop-low-smaller : goal.loop-low-smaller
-loop-low-smaller c = 
+loop-low-smaller c =
     let g = walk_lower _ c.requires.sound c.requires.few _ c.requires.falling_value _ _ _ _ _ _ c.loop-low.invariant _ c.highest-top.ensures in
     (walk_on _ c.requires.sound c.requires.few _ c.requires.falling_value _ _ _ _ _ _ g _ c.newest-low.ensures c.if-low-eq0.false (rw c.in-Won.is at c.round-turn.ensures) _ c.first-from.ensures).0
 
 pub loop-low-preserved : goal.loop-low-preserved
-loop-low-preserved c = 
+loop-low-preserved c =
     let g = walk_lower _ c.requires.sound c.requires.few _ c.requires.falling_value _ _ _ _ _ _ c.loop-low.invariant _ c.highest-top.ensures in
     (walk_on _ c.requires.sound c.requires.few _ c.requires.falling_value _ _ _ _ _ _ g _ c.newest-low.ensures c.if-low-eq0.false (rw c.in-Won.is at c.round-turn.ensures) _ c.first-from.ensures).1

@@ -14,7 +14,7 @@ put_answer-requires c = omega (arith, c.requires, c.put_answer-first.ensures.0, 
 
 pub returns : goal.returns
 unfolding answers_of
-returns c = 
+returns c =
     let one = answer_line 1 c.args.one in
     let two = answer_line 2 c.args.two in
     let both = put_then one two c.args.out.now c.args.at c.put_answer-first.ensures c.put_answer-second.ensures in

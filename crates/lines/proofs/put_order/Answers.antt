@@ -20,11 +20,11 @@ pub overflow_add-end : goal.overflow_add-end
 overflow_add-end c = omega (arith, c.requires.rows_lt_places c.if-answer-ne-FRESH.false)
 
 pub slice_bounds-put_line-end : goal.slice_bounds-put_line-end
-slice_bounds-put_line-end c = 
+slice_bounds-put_line-end c =
     let few = c.requires.rows_lt_places c.if-answer-ne-FRESH.false in sym (length-take-le _ _ (omega (arith, few, c.requires.page_len)))
 
 pub put_line-requires : goal.put_line-requires
-put_line-requires c = 
+put_line-requires c =
     let few = c.requires.rows_lt_places c.if-answer-ne-FRESH.false in omega (arith, c.requires.at_in_bounds, c.requires.page_len, few, c.put_bytes-next.ensures.0, line_length (take (c.args.answer.rows + 1) c.args.page.now), length-take (c.args.answer.rows + 1) c.args.page.now)
 
 pub returns : goal.returns

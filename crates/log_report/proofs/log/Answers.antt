@@ -1,6 +1,5 @@
 use Rattle.summary.proofs.Telling.{meant}
 use Rattle.log_report.proofs.log.Goals as goal
-
 -- The log is refused, or its table is reported.
 use native.Mathlib.Omega.{arith}
 use borrow.Author.Rules.{rules}

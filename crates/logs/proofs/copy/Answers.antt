@@ -31,7 +31,7 @@ pub loop-i-smaller : goal.loop-i-smaller
 loop-i-smaller c = omega arith
 
 pub loop-i-preserved : goal.loop-i-preserved
-loop-i-preserved c = 
+loop-i-preserved c =
     put_more c.loop-i.invariant
     (get_or c.args.source.now c.loop-i.i 0 ∷ [])
     (drop (c.loop-i.i + 1) c.args.source.now)
@@ -41,6 +41,6 @@ pub shape_of-table : goal.shape_of-table
 shape_of-table c = c.loop-i.invariant.long
 
 pub returns : goal.returns
-returns c = 
+returns c =
     (let d : length c.args.source.now ≤ c.loop-i.i = omega arith in (put_all c.loop-i.invariant (drop_of_length-le c.args.source.now d)).1)
     ∙ sets_front c.args.source.now c.args.table.now c.requires

@@ -9,11 +9,11 @@ pub returns-then-k-columns : goal.returns-then-k-columns
 returns-then-k-columns c = kind_says _ _ _ _ _ (eq-eqb _ _ c.if-k-columns.true) c.kind_cell.ensures
 
 pub returns-then-holds_number : goal.returns-then-holds_number
-returns-then-holds_number c = 
+returns-then-holds_number c =
     number_says _ _ _ _ _ (ne_eqb _ _ c.if-k-columns.false)
     (sym c.holds_number.ensures ∙ c.if-holds_number.true) c.number_cell.ensures
 
 pub returns : goal.returns
-returns c = 
+returns c =
     skipped_says _ _ _ _ _ (ne_eqb _ _ c.if-k-columns.false)
     (sym c.holds_number.ensures ∙ c.if-holds_number.false) (cell_is _ _ _ _ c.cell_end.ensures refl)

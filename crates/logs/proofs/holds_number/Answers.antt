@@ -12,12 +12,12 @@ returns-then-k-columns-2 c = rw (ne_eqb c.args.k c.args.columns.register c.if-k-
 
 pub returns-then-k-columns-3 : goal.returns-then-k-columns-3
 unfolding holds_number
-returns-then-k-columns-3 c = 
+returns-then-k-columns-3 c =
     rw
     (ne_eqb c.args.k c.args.columns.register c.if-k-columns.false, ne_eqb c.args.k c.args.columns.value c.if-k-columns-2.false, eq-eqb c.args.k c.args.columns.start c.if-k-columns-3.true)
 
 pub returns : goal.returns
 unfolding holds_number
-returns c = 
+returns c =
     rw
     (ne_eqb c.args.k c.args.columns.register c.if-k-columns.false, ne_eqb c.args.k c.args.columns.value c.if-k-columns-2.false, ne_eqb c.args.k c.args.columns.start c.if-k-columns-3.false)

@@ -12,28 +12,28 @@ returns-then-number-ge-LARGEST_COUNT c = rw (le-leb largest_count c.args.number 
 
 pub returns-then-size-line : goal.returns-then-size-line
 unfolding first_met walked_tests
-returns-then-size-line c = 
+returns-then-size-line c =
     rw
     (lt-leb largest_count c.args.number (omega arith), le-ltb c.args.line.end c.args.size (omega arith))
     c.refused-then-size-line.ensures
 
 pub returns-then-line-width : goal.returns-then-line-width
 unfolding first_met walked_tests
-returns-then-line-width c = 
+returns-then-line-width c =
     rw
     (lt-leb largest_count c.args.number (omega arith), lt-ltb c.args.line.end c.args.size (omega arith), ne_eqb c.args.line.count c.args.width (λ e. omega arith))
     c.refused-then-line-width.ensures
 
 pub returns-in-At : goal.returns-in-At
 unfolding first_met walked_tests
-returns-in-At c = 
+returns-in-At c =
     rw
     (lt-leb largest_count c.args.number (omega arith), lt-ltb c.args.line.end c.args.size (omega arith), eq-eqb c.args.line.count c.args.width (omega arith), c.in-At.is)
     c.refused-in-At.ensures
 
 pub returns-in-Nothing : goal.returns-in-Nothing
 unfolding first_met walked_tests
-returns-in-Nothing c = 
+returns-in-Nothing c =
     rw
     (lt-leb largest_count c.args.number (omega arith), lt-ltb c.args.line.end c.args.size (omega arith), eq-eqb c.args.line.count c.args.width (omega arith), c.in-Nothing.is)
     c.passed.ensures

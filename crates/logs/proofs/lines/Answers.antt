@@ -10,7 +10,7 @@ pub shape_of-table-then-answer-ne-FRESH : goal.shape_of-table-then-answer-ne-FRE
 shape_of-table-then-answer-ne-FRESH c = c.loop-at.invariant.put.long
 
 pub returns-then-answer-ne-FRESH : goal.returns-then-answer-ne-FRESH
-returns-then-answer-ne-FRESH c = 
+returns-then-answer-ne-FRESH c =
     load_hit _ _ _ _ _ _ _ _
     c.loop-at.invariant
     (omega arith) _ c.walk-line.ensures _
@@ -19,7 +19,7 @@ returns-then-answer-ne-FRESH c =
     c.if-answer-ne-FRESH.true
 
 pub put_row-requires : goal.put_row-requires
-put_row-requires c = 
+put_row-requires c =
     omega
     (arith, load_few _ _ _ _ _ _ _ _ c.loop-at.invariant (omega arith) _ c.walk-line.ensures _ c.judge-answer.ensures c.if-answer-ne-FRESH.false, c.loop-at.invariant.put.long, c.requires)
 
@@ -27,17 +27,17 @@ pub overflow_add-n : goal.overflow_add-n
 overflow_add-n c = omega (arith, c.loop-at.invariant.few)
 
 pub overflow_add-at : goal.overflow_add-at
-overflow_add-at c = 
+overflow_add-at c =
     omega
     (arith, load_within _ _ _ _ _ _ _ _ c.loop-at.invariant (omega arith) _ c.walk-line.ensures _ c.judge-answer.ensures)
 
 pub loop-at-smaller : goal.loop-at-smaller
-loop-at-smaller c = 
+loop-at-smaller c =
     omega
     (arith, load_above _ _ _ _ _ _ _ _ c.loop-at.invariant (omega arith) _ c.walk-line.ensures _ c.judge-answer.ensures)
 
 pub loop-at-preserved : goal.loop-at-preserved
-loop-at-preserved c = 
+loop-at-preserved c =
     load_more _ _ _ _ _ _ _ _
     c.loop-at.invariant
     (omega arith) _

@@ -17,13 +17,13 @@ pub overflow_add-k : goal.overflow_add-k
 overflow_add-k c = omega (arith, c.loop-x.invariant.count, c.loop-x.invariant.within)
 
 pub returns-then-not-comma_at : goal.returns-then-not-comma_at
-returns-then-not-comma_at c = 
+returns-then-not-comma_at c =
     walk_end c.args.bytes.now c.args.columns _ _ _ _ _ c.loop-x.invariant _ (decimal_read _ _ _ _ _ c.decimal_cell-cell.ensures _ c.in-Is.is)
     _ (decimal_worth _ _ _ _ _ c.decimal_cell-cell.ensures _ c.in-Is.is) _ c.with_cell-row.ensures _ (decimal_sound _ _ _ _ _ c.decimal_cell-cell.ensures _ c.in-Is.is)
     (sym c.comma_at.ensures ∙ c.if-not-comma_at.true)
 
 pub overflow_add-from : goal.overflow_add-from
-overflow_add-from c = 
+overflow_add-from c =
     omega (
       arith,
       walk_on c.args.bytes.now c.args.columns _ _ _ _ _ c.loop-x.invariant _ (decimal_read _ _ _ _ _ c.decimal_cell-cell.ensures _ c.in-Is.is)
@@ -32,7 +32,7 @@ overflow_add-from c =
     )
 
 pub loop-x-smaller : goal.loop-x-smaller
-loop-x-smaller c = 
+loop-x-smaller c =
     omega (
       arith,
       c.loop-x.invariant.within,
@@ -41,7 +41,7 @@ loop-x-smaller c =
     )
 
 pub loop-x-preserved : goal.loop-x-preserved
-loop-x-preserved c = 
+loop-x-preserved c =
     walk_more c.args.bytes.now c.args.columns _ _ _ _ _ c.loop-x.invariant _ (decimal_read _ _ _ _ _ c.decimal_cell-cell.ensures _ c.in-Is.is)
     _ (decimal_worth _ _ _ _ _ c.decimal_cell-cell.ensures _ c.in-Is.is) _ c.with_cell-row.ensures _ (decimal_sound _ _ _ _ _ c.decimal_cell-cell.ensures _ c.in-Is.is)
     (sym c.comma_at.ensures ∙ c.if-not-comma_at.false)

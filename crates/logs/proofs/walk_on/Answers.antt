@@ -11,13 +11,13 @@ pub overflow_add-k : goal.overflow_add-k
 overflow_add-k c = omega (arith, c.loop-columns.invariant.count, c.loop-columns.invariant.within)
 
 pub returns-then-not-comma_at : goal.returns-then-not-comma_at
-returns-then-not-comma_at c = 
+returns-then-not-comma_at c =
     walk_end c.args.bytes.now c.args.columns _ _ _ _ _ c.loop-columns.invariant _ c.read_cell-cell.ensures
     _ c.amount.ensures _ c.with_cell-row.ensures _ c.fault_at-fault.ensures
     (sym c.comma_at.ensures ∙ c.if-not-comma_at.true)
 
 pub overflow_add-from : goal.overflow_add-from
-overflow_add-from c = 
+overflow_add-from c =
     omega (
       arith,
       walk_on c.args.bytes.now c.args.columns _ _ _ _ _ c.loop-columns.invariant _ c.read_cell-cell.ensures
@@ -25,7 +25,7 @@ overflow_add-from c =
     )
 
 pub loop-columns-smaller : goal.loop-columns-smaller
-loop-columns-smaller c = 
+loop-columns-smaller c =
     omega (
       arith,
       c.loop-columns.invariant.within,
@@ -34,7 +34,7 @@ loop-columns-smaller c =
     )
 
 pub loop-columns-preserved : goal.loop-columns-preserved
-loop-columns-preserved c = 
+loop-columns-preserved c =
     walk_more c.args.bytes.now c.args.columns _ _ _ _ _ c.loop-columns.invariant _ c.read_cell-cell.ensures
     _ c.amount.ensures _ c.with_cell-row.ensures _ c.fault_at-fault.ensures
     (sym c.comma_at.ensures ∙ c.if-not-comma_at.false)

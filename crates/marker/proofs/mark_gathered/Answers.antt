@@ -7,7 +7,7 @@ pub put_by_time-requires : goal.put_by_time-requires
 put_by_time-requires c = record { fit = gathered_fit _ _ c.requires.passes.screened _ c.requires.rows_value; table_bound = c.requires.passes.screened.few }
 
 pub mark_rows-requires : goal.mark_rows-requires
-mark_rows-requires c = 
+mark_rows-requires c =
     let whole = rows_take _ _ _ _ c.requires.passes _ (listed _ _ c.requires.passes.screened _ _ c.requires.rows_value c.put_by_time.ensures) in record { by_index = whole.0; rows_len_bound = whole.1.0; rows_in_bounds = whole.1.1.0; asked = whole.1.1.1 }
 
 pub returns : goal.returns

@@ -27,12 +27,12 @@ pub returns-then-unfit : goal.returns-then-unfit
 returns-then-unfit c = sym (scan_hit _ _ _ _ (omega arith) c.loop-p.invariant.0 (λ r. first_cons_hit _ _ r _ (seen_misfits c.args.table.now c.args.register c.args.list.now (length c.args.seen.now) c.loop-p.p c.requires.table_in_bounds c.loop-p.seen c.loop-p.invariant.1 c.unfit.result _ c.unfit.ensures c.if-unfit.true)))
 
 pub offset_bounds-seen-at : goal.offset_bounds-seen-at
-offset_bounds-seen-at c = 
+offset_bounds-seen-at c =
     let below = fit_below c.args.table.now c.args.register c.args.list.now (length c.args.seen.now) c.loop-p.p c.requires.table_in_bounds c.loop-p.seen c.unfit.result c.unfit.ensures c.if-unfit.false in
     omega (arith, c.loop-p.invariant.1.long)
 
 pub bounds-seen-at : goal.bounds-seen-at
-bounds-seen-at c = 
+bounds-seen-at c =
     let below = fit_below c.args.table.now c.args.register c.args.list.now (length c.args.seen.now) c.loop-p.p c.requires.table_in_bounds c.loop-p.seen c.unfit.result c.unfit.ensures c.if-unfit.false in
     omega (arith, c.loop-p.invariant.1.long)
 
@@ -43,7 +43,7 @@ pub loop-p-smaller : goal.loop-p-smaller
 loop-p-smaller c = omega arith
 
 pub loop-p-preserved : goal.loop-p-preserved
-loop-p-preserved c = 
+loop-p-preserved c =
     let below = fit_below c.args.table.now c.args.register c.args.list.now (length c.args.seen.now) c.loop-p.p c.requires.table_in_bounds c.loop-p.seen c.unfit.result c.unfit.ensures c.if-unfit.false in
     (scan_more _ _ _ _ (omega arith) c.loop-p.invariant.0 (λ r. first_cons_miss _ _ r _ (seen_misfits c.args.table.now c.args.register c.args.list.now (length c.args.seen.now) c.loop-p.p c.requires.table_in_bounds c.loop-p.seen c.loop-p.invariant.1 c.unfit.result _ c.unfit.ensures c.if-unfit.false)), seen_more _ _ c.loop-p.p _ c.loop-p.seen refl below c.loop-p.invariant.1)
 

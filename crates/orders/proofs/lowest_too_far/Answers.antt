@@ -17,6 +17,6 @@ pub slice_bounds-lowest_too_far_with-end-2 : goal.slice_bounds-lowest_too_far_wi
 slice_bounds-lowest_too_far_with-end-2 c = sym (length-take-le _ _ (order_short c.args.table.now c.args.list.now c.requires))
 
 pub lowest_too_far_with-requires : goal.lowest_too_far_with-requires
-lowest_too_far_with-requires c = 
+lowest_too_far_with-requires c =
     let short = order_short c.args.table.now c.args.list.now c.requires in
     record { ordered = c.requires; writer_len = length-take-le _ _ short; counts_len = length-take-le _ _ short }

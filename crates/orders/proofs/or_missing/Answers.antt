@@ -15,7 +15,7 @@ returns-then-answer-ne0 c = rw (ne_eqb c.args.answer.code 0 c.if-answer-ne0.true
 
 pub returns-then-listed-count : goal.returns-then-listed-count
 unfolding or_test missing
-returns-then-listed-count c = 
+returns-then-listed-count c =
     let rows = length (rows_of c.args.table.now c.args.register) in
     let n : c.count.result ≡ rows = c.count.ensures ∙ history_count c.args.table.now c.args.register in
     let h : length c.args.list.now < rows = omega (arith, c.if-listed-count.true) in
@@ -23,7 +23,7 @@ returns-then-listed-count c =
 
 pub returns : goal.returns
 unfolding or_test missing
-returns c = 
+returns c =
     let rows = length (rows_of c.args.table.now c.args.register) in
     let n : c.count.result ≡ rows = c.count.ensures ∙ history_count c.args.table.now c.args.register in
     let h : rows ≤ length c.args.list.now = omega (arith, c.if-listed-count.false) in

@@ -8,7 +8,7 @@ use Rattle.parsing.proofs.Lines.{end_within, leading_full, leading_done, leading
 use Rattle.parsing.proofs.fill.Goals as goal
 
 pub loop-n-init : goal.loop-n-init
-loop-n-init c = 
+loop-n-init c =
     let e : length c.args.list.now - 0 ≡ length c.args.list.now = omega arith in rw e (put_none _ _ _)
 
 pub shape_of-list-then-text-at : goal.shape_of-list-then-text-at

@@ -5,7 +5,7 @@ use Rattle.parsing.proofs.Lines.{end_within, sound_full, sound_done, sound_next,
 use Rattle.parsing.proofs.sound.Goals as goal
 
 pub loop-n-init : goal.loop-n-init
-loop-n-init c = 
+loop-n-init c =
     let e : c.args.most - 0 ≡ c.args.most = omega arith in rw e
 
 pub returns-then-text-at : goal.returns-then-text-at

@@ -40,5 +40,5 @@ pub shape_of-out : goal.shape_of-out
 shape_of-out c = c.loop-i.invariant.putting.long
 
 pub returns : goal.returns
-returns c = 
+returns c =
     let whole = lined_end _ _ _ _ _ _ _ _ (omega arith) c.loop-i.invariant in record { value = whole.0; out_after = whole.1 }

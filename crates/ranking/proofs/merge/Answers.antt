@@ -26,32 +26,32 @@ pub overflow_add-i : goal.overflow_add-i
 overflow_add-i c = omega (arith, c.loop-j.invariant.few_starts, c.loop-j.invariant.few_finishes, c.requires.list_len_bound)
 
 pub doubled-requires : goal.doubled-requires
-doubled-requires c = 
+doubled-requires c =
     let e = sym c.comes_first.ensures ∙ c.if-comes_first.true in
     omega (arith, (first_start _ _ _ c.requires.ready _ _ _ _ c.loop-j.invariant (omega arith) e).0, c.loop-j.invariant.size_start, c.loop-j.invariant.few_finishes, c.requires.list_len_bound)
 
 pub offset_bounds-start-i : goal.offset_bounds-start-i
-offset_bounds-start-i c = 
+offset_bounds-start-i c =
     let e = sym c.comes_first.ensures ∙ c.if-comes_first.true in
     omega (arith, (first_start _ _ _ c.requires.ready _ _ _ _ c.loop-j.invariant (omega arith) e).0, c.loop-j.invariant.size_start, c.loop-j.invariant.few_finishes, c.requires.list_len_bound)
 
 pub bounds-start-i : goal.bounds-start-i
-bounds-start-i c = 
+bounds-start-i c =
     let e = sym c.comes_first.ensures ∙ c.if-comes_first.true in
     omega (arith, (first_start _ _ _ c.requires.ready _ _ _ _ c.loop-j.invariant (omega arith) e).0, c.loop-j.invariant.size_start, c.loop-j.invariant.few_finishes, c.requires.list_len_bound)
 
 pub overflow_add-i-then-comes_first : goal.overflow_add-i-then-comes_first
-overflow_add-i-then-comes_first c = 
+overflow_add-i-then-comes_first c =
     let e = sym c.comes_first.ensures ∙ c.if-comes_first.true in
     omega (arith, (first_start _ _ _ c.requires.ready _ _ _ _ c.loop-j.invariant (omega arith) e).0, c.loop-j.invariant.size_start, c.loop-j.invariant.few_finishes, c.requires.list_len_bound)
 
 pub loop-j-smaller-then-comes_first : goal.loop-j-smaller-then-comes_first
-loop-j-smaller-then-comes_first c = 
+loop-j-smaller-then-comes_first c =
     let e = sym c.comes_first.ensures ∙ c.if-comes_first.true in
     omega (arith, (first_start _ _ _ c.requires.ready _ _ _ _ c.loop-j.invariant (omega arith) e).0, c.loop-j.invariant.size_start, c.loop-j.invariant.few_finishes, c.requires.list_len_bound)
 
 pub loop-j-preserved-then-comes_first : goal.loop-j-preserved-then-comes_first
-loop-j-preserved-then-comes_first c = 
+loop-j-preserved-then-comes_first c =
     let e = sym c.comes_first.ensures ∙ c.if-comes_first.true in
     merge_start _ _ _ c.requires.ready _ _ _ _ c.loop-j.invariant (omega arith) e _ (omega (arith, c.doubled.ensures))
 
@@ -74,7 +74,7 @@ pub loop-j-smaller : goal.loop-j-smaller
 loop-j-smaller c = omega (arith, c.loop-j.invariant.few_starts, c.loop-j.invariant.few_finishes, c.requires.list_len_bound)
 
 pub loop-j-preserved : goal.loop-j-preserved
-loop-j-preserved c = 
+loop-j-preserved c =
     let e = sym c.comes_first.ensures ∙ c.if-comes_first.false in
     merge_finish _ _ _ c.requires.ready _ _ _ _ c.loop-j.invariant (omega arith) e _ (omega (arith, c.doubled-else-comes_first.ensures))
 

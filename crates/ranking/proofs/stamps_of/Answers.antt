@@ -21,7 +21,7 @@ pub at-o-requires : goal.at-o-requires
 at-o-requires c = c.requires.fit.inside _ (get_d_in c.args.rows.now 0 c.loop-i.i (omega arith))
 
 pub time-requires : goal.time-requires
-time-requires c = 
+time-requires c =
     let b = bounded c.requires.fit (get_d_in c.args.rows.now 0 c.loop-i.i (omega arith)) in
     rw c.at-o.ensures b.0
 
@@ -32,7 +32,7 @@ pub bounds-starts-i : goal.bounds-starts-i
 bounds-starts-i c = omega arith
 
 pub time-requires-in-loop-i : goal.time-requires-in-loop-i
-time-requires-in-loop-i c = 
+time-requires-in-loop-i c =
     let b = bounded c.requires.fit (get_d_in c.args.rows.now 0 c.loop-i.i (omega arith)) in
     rw c.at-o.ensures b.1
 
@@ -49,11 +49,10 @@ pub loop-i-smaller : goal.loop-i-smaller
 loop-i-smaller c = omega arith
 
 pub loop-i-preserved : goal.loop-i-preserved
-loop-i-preserved c = 
-    (
-      filled_more _ _ _ c.requires.starts_len.0 _ _ _ (omega arith) (c.time.ensures ∙ ap (λ o. time_of (starting o)) c.at-o.ensures) c.loop-i.invariant.0,
-      filled_more _ _ _ c.requires.starts_len.1 _ _ _ (omega arith) (c.time-in-loop-i.ensures ∙ ap (λ o. time_of (finishing o)) c.at-o.ensures) c.loop-i.invariant.1,
-    )
+loop-i-preserved c = (
+  filled_more _ _ _ c.requires.starts_len.0 _ _ _ (omega arith) (c.time.ensures ∙ ap (λ o. time_of (starting o)) c.at-o.ensures) c.loop-i.invariant.0,
+  filled_more _ _ _ c.requires.starts_len.1 _ _ _ (omega arith) (c.time-in-loop-i.ensures ∙ ap (λ o. time_of (finishing o)) c.at-o.ensures) c.loop-i.invariant.1,
+)
 
 pub shape_of-starts : goal.shape_of-starts
 shape_of-starts c = c.loop-i.invariant.0.long

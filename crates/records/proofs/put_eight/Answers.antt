@@ -32,6 +32,6 @@ shape_of-bytes c = simp length-set
 
 pub returns : goal.returns
 unfolding little_endian
-returns c = 
+returns c =
     rw (c.low.ensures, c.low-2.ensures, c.low-3.ensures, c.low-4.ensures, c.low-5.ensures, c.low-6.ensures, c.low-7.ensures, c.low-8.ensures)
     (stores_first c.args.bytes.now c.args.at (c.args.x % 256) (little_endian 7 (c.args.x / 256)))

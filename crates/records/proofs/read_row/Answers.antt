@@ -38,6 +38,6 @@ bounds-table-base-5 c = simp length-set (omega arith)
 
 pub returns : goal.returns
 unfolding record_from
-returns c = 
+returns c =
     rw (c.stamp-2.ensures, c.stamp.ensures, c.eight-2.ensures, c.eight.ensures, c.two-kind.ensures)
     (stores_sets (cells (record_from c.args.bytes.now c.args.at)) c.args.table.now (c.args.row * 5) 0 (c.args.row * 5) (add-zero (c.args.row * 5)))

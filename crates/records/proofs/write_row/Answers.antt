@@ -15,7 +15,7 @@ pub put_head-requires : goal.put_head-requires
 put_head-requires c = omega (arith, c.requires.row_in_bounds_2, least_length (cell c.args.table.now c.args.row 1))
 
 pub returns-then-kind-eq-OPENING : goal.returns-then-kind-eq-OPENING
-returns-then-kind-eq-OPENING c = 
+returns-then-kind-eq-OPENING c =
     let r = row_at c.args.table.now c.args.row in
     record { value = omega (arith, short_length r.kind c.if-kind-eq-OPENING.true); bytes_after = c.put_head.ensures ∙ opening_stores c.args.bytes.now c.args.at r c.if-kind-eq-OPENING.true }
 
@@ -23,6 +23,6 @@ pub put_stamps-requires : goal.put_stamps-requires
 put_stamps-requires c = omega (arith, c.requires.row_in_bounds_2, long_length (cell c.args.table.now c.args.row 1) c.if-kind-eq-OPENING.false, ap length c.put_head.ensures, length-sets c.args.bytes.now c.args.at (head_bytes (cell c.args.table.now c.args.row 1) (cell c.args.table.now c.args.row 0) (cell c.args.table.now c.args.row 2)))
 
 pub returns : goal.returns
-returns c = 
+returns c =
     let r = row_at c.args.table.now c.args.row in
     record { value = omega (arith, long_length r.kind c.if-kind-eq-OPENING.false); bytes_after = c.put_stamps.ensures ∙ ap (λ (l : List ℕ). sets l (c.args.at + 20) (stamp_bytes r.start r.finish)) c.put_head.ensures ∙ record_stores c.args.bytes.now c.args.at r c.if-kind-eq-OPENING.false }

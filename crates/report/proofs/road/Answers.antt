@@ -1,6 +1,5 @@
 use Rattle.summary.proofs.Telling.{meant}
 use Rattle.report.proofs.road.Goals as goal
-
 -- The file is refused, or its table is reported.
 use native.Mathlib.Omega.{arith}
 use borrow.Author.Rules.{rules}

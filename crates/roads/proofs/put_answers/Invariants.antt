@@ -6,7 +6,7 @@ use Rattle.roads.specs.Answers.{fields}
 use Rattle.roads.proofs.put_answers.Given as goal
 
 abbrev pub invariant-loop-i : goal.invariant-loop-i
-invariant-loop-i l =     Writing (fields l.table l.question l.allowance) l.registers l.initial.keys l.initial.rows l.initial.order l.initial.list l.i l.keys l.rows l.order l.list
+invariant-loop-i l = Writing (fields l.table l.question l.allowance) l.registers l.initial.keys l.initial.rows l.initial.order l.initial.list l.i l.keys l.rows l.order l.list
 
 abbrev pub decreases-loop-i : goal.decreases-loop-i
 decreases-loop-i l = length l.registers - l.i

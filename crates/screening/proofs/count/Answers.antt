@@ -25,11 +25,10 @@ pub loop-i-smaller : goal.loop-i-smaller
 loop-i-smaller c = omega arith
 
 pub loop-i-preserved : goal.loop-i-preserved
-loop-i-preserved c = 
-    (
-      omega (arith, c.borne-rows.ensures, one_if_small (bears c.args.table.now c.args.register c.loop-i.i)),
-      scan_more _ _ _ _ (omega arith) c.loop-i.invariant.1 (λ r. omega (arith, c.borne-rows.ensures, count_cons c.args.table.now c.args.register c.loop-i.i r)),
-    )
+loop-i-preserved c = (
+  omega (arith, c.borne-rows.ensures, one_if_small (bears c.args.table.now c.args.register c.loop-i.i)),
+  scan_more _ _ _ _ (omega arith) c.loop-i.invariant.1 (λ r. omega (arith, c.borne-rows.ensures, count_cons c.args.table.now c.args.register c.loop-i.i r)),
+)
 
 pub returns : goal.returns
 unfolding keep

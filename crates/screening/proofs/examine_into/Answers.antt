@@ -13,19 +13,19 @@ use Rattle.screening.proofs.examine_into.Goals as goal
 
 pub returns-then-table-ne0 : goal.returns-then-table-ne0
 unfolding examined tests first_met
-returns-then-table-ne0 c = 
+returns-then-table-ne0 c =
     let size = length c.args.table.now in
     record { value = rw (ne_eqb (size % 5) 0 c.if-table-ne0.true) c.refused.ensures; gathered = λ z. absurd (omega (arith, z, ap (λ (x : Answer). x.code) c.refused.ensures)) }
 
 pub returns-then-table-gt-LARGEST_COUNT : goal.returns-then-table-gt-LARGEST_COUNT
 unfolding examined tests first_met
-returns-then-table-gt-LARGEST_COUNT c = 
+returns-then-table-gt-LARGEST_COUNT c =
     let size = length c.args.table.now in
     record { value = rw (eq-eqb (size % 5) 0 c.if-table-ne0.false, lt-ltb largest_count (size / 5) c.if-table-gt-LARGEST_COUNT.true) c.refused-then-table-gt-LARGEST_COUNT.ensures; gathered = λ z. absurd (omega (arith, z, ap (λ (x : Answer). x.code) c.refused-then-table-gt-LARGEST_COUNT.ensures)) }
 
 pub returns-then-unasked : goal.returns-then-unasked
 unfolding examined tests first_met
-returns-then-unasked c = 
+returns-then-unasked c =
     let size = length c.args.table.now in
     record { value = rw (eq-eqb (size % 5) 0 c.if-table-ne0.false, le-ltb largest_count (size / 5) c.if-table-gt-LARGEST_COUNT.false, c.if-unasked.true) c.refused-then-unasked.ensures; gathered = λ z. absurd (omega (arith, z, ap (λ (x : Answer). x.code) c.refused-then-unasked.ensures)) }
 

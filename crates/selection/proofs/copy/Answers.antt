@@ -36,7 +36,7 @@ pub shape_of-table : goal.shape_of-table
 shape_of-table c = fill_long _ _ _ _ _ c.loop-i.invariant
 
 pub returns : goal.returns
-returns c = 
+returns c =
     let g : ℕ → List ℕ = λ n. cells (record_from c.args.bytes.now n) in
     let h : ℕ → List ℕ = λ k. g (get_or c.args.picks.now k 0) in
     fill_end _ _ _ _ _ c.loop-i.invariant (omega arith) (omega (arith, c.requires.room, length_blocks h 5 (λ k. refl) (length c.args.picks.now)))

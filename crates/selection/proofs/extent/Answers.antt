@@ -13,7 +13,7 @@ returns-then-left-lt-SHORT_RECORD c = extent_short _ _ c.if-left-lt-SHORT_RECORD
 
 pub returns-then-left-size : goal.returns-then-left-size
 unfolding record_from
-returns-then-left-size c = 
+returns-then-left-size c =
     let known : Bytes c.args.bytes.now = λ i. omega (arith, c.shared_slice_known-1.given i) in
     let small = field_below c.args.bytes.now (c.args.at + 2) 2 known in
     let size = c.extent_by-size.ensures ∙ head_extent (field c.args.bytes.now c.args.at 2) (operation (record_from c.args.bytes.now c.args.at) 0) _ c.head.ensures small in
@@ -21,7 +21,7 @@ returns-then-left-size c =
 
 pub returns : goal.returns
 unfolding record_from
-returns c = 
+returns c =
     let known : Bytes c.args.bytes.now = λ i. omega (arith, c.shared_slice_known-1.given i) in
     let small = field_below c.args.bytes.now (c.args.at + 2) 2 known in
     let size = c.extent_by-size.ensures ∙ head_extent (field c.args.bytes.now c.args.at 2) (operation (record_from c.args.bytes.now c.args.at) 0) _ c.head.ensures small in

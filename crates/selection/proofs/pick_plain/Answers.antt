@@ -53,7 +53,7 @@ pub loop-k-smaller-then-bears : goal.loop-k-smaller-then-bears
 loop-k-smaller-then-bears c = omega arith
 
 pub loop-k-preserved-then-bears : goal.loop-k-preserved-then-bears
-loop-k-preserved-then-bears c = 
+loop-k-preserved-then-bears c =
     let known : Bytes c.args.bytes.now = λ i. omega (arith, c.shared_slice_known-1.given i) in
     let small = field_below c.args.bytes.now (c.loop-k.at + 2) 2 known in
     plain_in _ _ _ _ _ _ _ _ _ c.loop-k.invariant (omega arith) small (ap plain (sym c.head.ensures) ∙ sym c.is_plain.ensures ∙ c.if-not-is_plain.false) (sym c.bears.ensures ∙ c.if-bears.true)
@@ -62,7 +62,7 @@ pub loop-k-smaller : goal.loop-k-smaller
 loop-k-smaller c = omega arith
 
 pub loop-k-preserved : goal.loop-k-preserved
-loop-k-preserved c = 
+loop-k-preserved c =
     let known : Bytes c.args.bytes.now = λ i. omega (arith, c.shared_slice_known-1.given i) in
     let small = field_below c.args.bytes.now (c.loop-k.at + 2) 2 known in
     plain_out _ _ _ _ _ _ _ _ _ c.loop-k.invariant (omega arith) small (ap plain (sym c.head.ensures) ∙ sym c.is_plain.ensures ∙ c.if-not-is_plain.false) (sym c.bears.ensures ∙ c.if-bears.false)

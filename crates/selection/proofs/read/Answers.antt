@@ -11,7 +11,7 @@ pub overflow_mul-m : goal.overflow_mul-m
 overflow_mul-m c = omega (arith, found_few _ _ _ c.find-found.ensures.answer _ (c.find-found.ensures.places c.if-found-ne-FRESH.false))
 
 pub returns-then-answer-ne-FRESH : goal.returns-then-answer-ne-FRESH
-returns-then-answer-ne-FRESH c = 
+returns-then-answer-ne-FRESH c =
     let p = c.find-found.ensures.places c.if-found-ne-FRESH.false in
     read_short _ _ _ _ p _ (found_long _ _ _ c.find-found.ensures.answer _ p) _ c.room_for-answer.ensures c.if-answer-ne-FRESH.true
 
@@ -22,12 +22,12 @@ pub slice_bounds-copy-end : goal.slice_bounds-copy-end
 slice_bounds-copy-end c = found_long _ _ _ c.find-found.ensures.answer _ (c.find-found.ensures.places c.if-found-ne-FRESH.false)
 
 pub copy-requires : goal.copy-requires
-copy-requires c = 
+copy-requires c =
     let p = c.find-found.ensures.places c.if-found-ne-FRESH.false in
     let room = room_enough c.find-found.result.rows (length c.args.table.now) _ c.room_for-answer.ensures c.if-answer-ne-FRESH.false in
     record { stands = placed_stand _ _ _ p; room = omega (arith, found_long _ _ _ c.find-found.ensures.answer _ p, room) }
 
 pub returns : goal.returns
-returns c = 
+returns c =
     let p = c.find-found.ensures.places c.if-found-ne-FRESH.false in
     read_fresh _ _ _ _ p _ (found_long _ _ _ c.find-found.ensures.answer _ p) _ c.room_for-answer.ensures c.if-answer-ne-FRESH.false _ c.copy.ensures

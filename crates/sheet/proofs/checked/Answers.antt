@@ -27,7 +27,7 @@ slice_bounds-hand_out-end c = sym (length-take-le _ _ (omega (arith, c.put_sheet
 
 pub returns : goal.returns
 unfolding exam_of
-returns c = 
+returns c =
     let whole =
     put_then (sheet_of c.args.table.now c.args.register most_trials) (check_line (check c.args.table.now c.args.register c.args.k c.args.list.now)) (replicate room 0) 0 c.put_sheet-next.ensures (rw c.check-answer.ensures.answer at c.put_check-length.ensures)
     in

@@ -10,7 +10,7 @@ use Rattle.text.proofs.Digits.{digits_none, digits_last, digits_more, digits_mor
 use Rattle.text.proofs.+put_digits.Goals as goal
 
 pub returns-then-most-lt1 : goal.returns-then-most-lt1
-returns-then-most-lt1 t c = 
+returns-then-most-lt1 t c =
     let e : digits c.args.most c.args.n ≡ [] = digits_none c.args.most c.args.n (omega arith) in
     (omega (arith, ap length e), rw e)
 
@@ -30,7 +30,7 @@ pub shape_of-out-then-n-lt10 : goal.shape_of-out-then-n-lt10
 shape_of-out-then-n-lt10 t c = simp length-set
 
 pub returns-then-n-lt10 : goal.returns-then-n-lt10
-returns-then-n-lt10 t c = 
+returns-then-n-lt10 t c =
     let e : digits c.args.most c.args.n ≡ digit c.args.n ∷ [] = digits_last c.args.most c.args.n (omega arith) (omega arith) in
     (omega (arith, ap length e), rw e)
 
@@ -47,7 +47,7 @@ pub shape_of-out : goal.shape_of-out
 shape_of-out t c = simp length-set (search rules)
 
 pub returns : goal.returns
-returns t c = 
+returns t c =
     let e : digits c.args.most c.args.n ≡ digits (c.args.most - 1) (c.args.n / 10) ++ (digit c.args.n ∷ []) =
     digits_more c.args.most c.args.n (omega arith) (omega arith)
     in

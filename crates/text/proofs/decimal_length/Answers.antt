@@ -20,7 +20,7 @@ pub loop-count-smaller : goal.loop-count-smaller
 loop-count-smaller c = omega arith
 
 pub loop-count-preserved : goal.loop-count-preserved
-loop-count-preserved c = 
+loop-count-preserved c =
     let e : 20 - (c.loop-count.count + 1) ≡ 20 - c.loop-count.count - 1 = omega arith in
     (omega arith, rw e (omega (arith, c.loop-count.invariant.1, digits_more_length (20 - c.loop-count.count) c.loop-count.rest (omega arith) (omega arith))))
 

@@ -9,7 +9,7 @@ use Rattle.text.proofs.Putting.{put_none, put_more, put_end}
 use Rattle.text.proofs.put_bytes.Goals as goal
 
 pub loop-i-init : goal.loop-i-init
-loop-i-init c = 
+loop-i-init c =
     let e : c.args.at + 0 ≡ c.args.at = omega arith in (omega arith, rw e (put_none _ _ _))
 
 pub bounds-text-i : goal.bounds-text-i
@@ -28,7 +28,7 @@ pub loop-i-smaller : goal.loop-i-smaller
 loop-i-smaller c = omega arith
 
 pub loop-i-preserved : goal.loop-i-preserved
-loop-i-preserved c = 
+loop-i-preserved c =
     let e : c.args.at + (c.loop-i.i + 1) ≡ c.args.at + c.loop-i.i + 1 = omega arith in
     (omega arith, put_more c.loop-i.invariant.1 (get_or c.args.text.now c.loop-i.i 0 ∷ []) (drop (c.loop-i.i + 1) c.args.text.now) (rw (add-one c.loop-i.i) (drop-cons c.args.text.now c.loop-i.i 0 (omega arith))) _ _ refl e)
 

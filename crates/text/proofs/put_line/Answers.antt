@@ -11,7 +11,7 @@ pub bounds-out-at : goal.bounds-out-at
 bounds-out-at c = omega (arith, c.requires, ap length (line_none c.args.numbers.now c.if-numbers-lt1.true))
 
 pub returns-then-numbers-lt1 : goal.returns-then-numbers-lt1
-returns-then-numbers-lt1 c = 
+returns-then-numbers-lt1 c =
     let e = line_none c.args.numbers.now c.if-numbers-lt1.true in (rw e, rw e)
 
 pub put_number-next-requires : goal.put_number-next-requires
@@ -21,7 +21,7 @@ pub put_rest-requires : goal.put_rest-requires
 put_rest-requires c = omega (arith, c.requires, c.put_number-next.ensures.0, c.put_number-next.auto.out, ap length (line_some c.args.numbers.now (omega arith)), length-append (decimal (get_or c.args.numbers.now 0 0)) (rest (drop 1 c.args.numbers.now)))
 
 pub returns : goal.returns
-returns c = 
+returns c =
     let first =
     put_more (put_none c.args.out.now c.args.at (line c.args.numbers.now)) (decimal (get_or c.args.numbers.now 0 0)) (rest (drop 1 c.args.numbers.now)) (line_some c.args.numbers.now (omega arith)) _ _ c.put_number-next.ensures.1 c.put_number-next.ensures.0
     in

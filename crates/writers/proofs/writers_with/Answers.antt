@@ -4,11 +4,11 @@ use Rattle.writers.proofs.Marking.{firsts_of}
 use Rattle.writers.proofs.writers_with.Goals as goal
 
 pub mark-requires : goal.mark-requires
-mark-requires c = 
+mark-requires c =
     let f = firsts_of c.value_of.ensures c.firsts.ensures in
     record { within = c.requires.within; rows_in_bounds = omega arith; firsts = f; slots_len = omega arith; by_index = c.requires.by_index }
 
 pub pick-requires : goal.pick-requires
-pick-requires c = 
+pick-requires c =
     let f = firsts_of c.value_of.ensures c.firsts.ensures in
     record { rows_in_bounds = omega arith; firsts = f; marked = c.mark.ensures; out_len = omega arith }

@@ -26,6 +26,6 @@ pub slice_bounds-list_with-end-8 : goal.slice_bounds-list_with-end-8
 slice_bounds-list_with-end-8 c = sym (front_of 0 1024 c.args.rows.now c.requires.rows_len_bound)
 
 pub list_with-requires : goal.list_with-requires
-list_with-requires c = 
+list_with-requires c =
     let e = front_of 0 1024 c.args.rows.now c.requires.rows_len_bound in
     record { room = room_of 1024 _ c.requires.rows_len_bound; by_index = c.requires.by_index; late_len = e; places_len = e; rows_in_bounds = c.requires.rows_len_bound; rows_len_bound = omega (arith, c.requires.rows_len_bound) }

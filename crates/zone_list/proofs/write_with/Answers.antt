@@ -6,7 +6,7 @@ use Rattle.zone_list.proofs.Calling.{met_screened, promised_refused, promised_sh
 use Rattle.zone_list.proofs.write_with.Goals as goal
 
 pub returns-then-met-ne0 : goal.returns-then-met-ne0
-returns-then-met-ne0 c = 
+returns-then-met-ne0 c =
     let whole = promised_refused _ _ _ _ c.examine_into-met.ensures.value c.if-met-ne0.true in record { list_after = whole.0; shown = whole.1.0; of_alike = whole.1.1 }
 
 pub slice_bounds-list_gathered-end : goal.slice_bounds-list_gathered-end
@@ -22,9 +22,9 @@ pub overflow_mul-m : goal.overflow_mul-m
 overflow_mul-m c = omega (arith, c.list_gathered-m.ensures.few, rows_few c.args.table.now c.args.register, (met_screened c.args.table.now c.args.register _ c.examine_into-met.ensures.value c.if-met-ne0.false).few)
 
 pub returns-then-list-m : goal.returns-then-list-m
-returns-then-list-m c = 
+returns-then-list-m c =
     let whole = promised_short _ _ _ _ c.examine_into-met.ensures.value c.if-met-ne0.false _ _ c.list_gathered-m.ensures (omega (arith, c.list_gathered-m.auto.list, c.if-list-m.true)) _ c.refused.ensures in record { list_after = whole.0; shown = whole.1.0; of_alike = whole.1.1 }
 
 pub returns : goal.returns
-returns c = 
+returns c =
     let whole = promised_done _ _ _ _ c.examine_into-met.ensures.value c.if-met-ne0.false _ _ c.list_gathered-m.ensures (omega (arith, c.list_gathered-m.auto.list, c.if-list-m.false)) in record { list_after = whole.0; shown = whole.1.0; of_alike = whole.1.1 }

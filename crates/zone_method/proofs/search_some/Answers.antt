@@ -12,6 +12,6 @@ pub slice_bounds-search_with-end-2 : goal.slice_bounds-search_with-end-2
 slice_bounds-search_with-end-2 c = sym (front_of 0 256 c.args.rows.now c.requires.few)
 
 pub search_with-requires : goal.search_with-requires
-search_with-requires c = 
+search_with-requires c =
     let e = front_of 0 256 c.args.rows.now c.requires.few in
     record { made = c.requires.made; listed = c.requires.listed; few = omega (arith, c.requires.few); late_value = e; places_value = e; list_room = omega (arith, c.requires.few); placed_room = c.requires.few; free = unmarked 256; order_room = c.requires.order_room }

@@ -19,6 +19,6 @@ pub slice_bounds-settle-end-2 : goal.slice_bounds-settle-end-2
 slice_bounds-settle-end-2 c = sym (length-take-le c.fill-m.result _ (omega (arith, c.fill-m.ensures.r_in_bounds, c.fill-m.auto.places, c.requires.places_value)))
 
 pub settle-requires : goal.settle-requires
-settle-requires c = 
+settle-requires c =
     let n = made_size c.requires.listed.1 c.requires.made in
     let d = filled_decides c.requires.made c.requires.listed c.fill-m.ensures.zoned c.fill-m.ensures.of_rows (omega (arith, c.fill-m.ensures.r_in_bounds, c.requires.list_room)) in record { sound = made_sound c.requires.listed.1 c.requires.made; few = omega (arith, n, c.requires.few); says = λ H o. c.decide-one.ensures ∙ d H o; zoned = c.fill-m.ensures.zoned; list_value = c.fill-m.ensures.places_after; placed_room = omega (arith, n, c.requires.placed_room); free = c.requires.free; order_room = omega (arith, n, c.fill-m.auto.low, c.requires.order_room) }

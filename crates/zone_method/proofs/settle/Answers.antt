@@ -3,7 +3,7 @@ use Rattle.zone_method.proofs.Found.{lay_asks, search_stale, search_fresh}
 use Rattle.zone_method.proofs.settle.Goals as goal
 
 pub lay-from-requires : goal.lay-from-requires
-lay-from-requires c = 
+lay-from-requires c =
     let rest = lay_asks _ c.requires.sound c.requires.few _ c.requires.zoned _ c.requires.list_value _ c.requires.says _ _ c.requires.placed_room c.requires.free c.requires.order_room in record { linked = c.requires.sound.links; ready = rest.0; whole = rest.1.0; once = rest.1.1 }
 
 pub returns-then-one : goal.returns-then-one

@@ -23,13 +23,13 @@ pub list_gathered-m-requires : goal.list_gathered-m-requires
 list_gathered-m-requires c = record { screened = met_screened _ _ _ c.examine_into-met.ensures.value c.if-met-ne0.false; rows_value = front_rows _ _ _ (c.examine_into-met.ensures.gathered c.if-met-ne0.false) _ (counted _ _ _ _ c.examine_into-met.ensures.value c.if-met-ne0.false) }
 
 pub headed-requires : goal.headed-requires
-headed-requires c = 
+headed-requires c =
     let r = rows_few c.args.table.now c.args.register in
     let s = met_screened c.args.table.now c.args.register _ c.examine_into-met.ensures.value c.if-met-ne0.false in
     record { header_len_bound = omega arith; w_in_bounds = omega (arith, c.list_gathered-m.ensures.few, r, s.few, c.list_gathered-m.auto.list); w_bound = omega arith; k_le_largest_count = omega (arith, c.list_gathered-m.ensures.few, r, s.few) }
 
 pub returns : goal.returns
-returns c = 
+returns c =
     let e = is_screening _ _ _ c.examine_into-met.ensures.value in
     let s = met_screened c.args.table.now c.args.register _ c.examine_into-met.ensures.value c.if-met-ne0.false in
     text_printed _ _ _ _ _ (text_is _ _ (sym (ap (λ (x : Answer). x.code) e) ∙ c.if-met-ne0.false) _ _ _ c.list_gathered-m.ensures (omega (arith, c.list_gathered-m.ensures.few, rows_few c.args.table.now c.args.register, s.few))) c.headed.ensures

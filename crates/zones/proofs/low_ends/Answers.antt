@@ -50,7 +50,7 @@ pub loop-i-smaller-then-v-at : goal.loop-i-smaller-then-v-at
 loop-i-smaller-then-v-at c = omega arith
 
 pub loop-i-preserved-then-v-at : goal.loop-i-preserved-then-v-at
-loop-i-preserved-then-v-at c = 
+loop-i-preserved-then-v-at c =
     list_push _ _ _ _ _ _ _ _ _ _ _ c.loop-i.invariant (omega arith) (omega (arith, c.requires.ends.writers)) c.if-v-at.true (omega (arith, c.loop-i.invariant.few, c.loop-i.invariant.room, c.requires.writer_in_bounds_2)) _ c.last_start.ensures _
     (c.low.ensures ∙ ap (λ (z : Zone). low z) c.zone_of-z.ensures) _ c.if-v-at.true
 
@@ -70,6 +70,6 @@ pub shape_of-list : goal.shape_of-list
 shape_of-list c = c.loop-i.invariant.room
 
 pub returns : goal.returns
-returns c = 
+returns c =
     let e = list_end _ _ _ _ _ _ _ _ _ _ _ c.loop-i.invariant (omega arith) c.requires.ends.writers in
     record { upper_bound = e.0; list_after = e.1; lates = e.2; lows = e.3 }
