@@ -1,6 +1,6 @@
 /* Valgrist: the mark of one register of a history file, as a number.
  *
- * Link target/staticlib/libhost.a (made by `rt staticlib host`). The function is proved to give the code that is
+ * Link target/staticlib/libhost.a (made by `tools/prove host`). The function is proved to give the code that is
  * defined for any bytes, register and question; it keeps no state, allocates nothing, keeps its arrays on the stack,
  * and may be called from several threads at once. */
 #ifndef VALGRIST_H

@@ -6,7 +6,7 @@ use mathlib.Core.List.{List, map}
 use native.Mathlib.Omega.{arith}
 use lib.Dec.{leb}
 use lib.ListN.{length, get_or, set, take, length-map}
-use Rattle.lists.specs.Lists.{from, up_to}
+use Rattle.lists.specs.Lists.{up_to}
 use Rattle.lists.specs.Sorts.{sort}
 use Rattle.lists.proofs.Images.{get_d_map, sort_map, sort_ext}
 use Rattle.history.specs.Table.{row_count}

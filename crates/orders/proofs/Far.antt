@@ -10,7 +10,7 @@ use native.Mathlib.Omega.{arith}
 use native.Mathlib.Decide.{dec_lt}
 use lib.Dec.{ltb}
 use lib.ListN.{length, get_or, length-map}
-use Rattle.lists.specs.Lists.{up_to, any}
+use Rattle.lists.specs.Lists.{up_to}
 use Rattle.lists.specs.Pairs.{Pairs, nil, cons}
 use Rattle.lists.proofs.Tests.{both, told_same, told_true, false_told, told_as, told_not, told_ltb}
 use Rattle.lists.proofs.Ranges.{below_in, in_below, from_length}

@@ -7,8 +7,8 @@ use mathlib.Core.Bool.{true, false}
 use mathlib.Core.List.{List, [], ◌++◌, flat_map, append-nil, append_assoc}
 use native.Mathlib.Decide.{ℕ_discrete}
 use native.Mathlib.Omega.{arith}
-use lib.ListN.{length, get_or, take, drop, length-drop, length-append, length-replicate, drop_of_length-le}
-use lib.Seq.{sets, sets-eq, take_all, drop-drop, ext_get_or, get_or-take, get_or-drop, length-take-le}
+use lib.ListN.{length, get_or, take, drop, length-drop, length-replicate, drop_of_length-le}
+use lib.Seq.{sets, sets-eq, take_all, drop-drop}
 use borrow.Author.Tests.{eq-eqb, ne_eqb, lt-ltb, le-ltb, ltb-false}
 use borrow.Rule.Slice.PartMut.{mid_of, put_mid}
 use Rattle.lists.proofs.Tests.{both}

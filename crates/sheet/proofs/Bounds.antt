@@ -11,7 +11,6 @@ use lib.Seq.{length_front, length-take-le}
 use borrow.Author.Tests.{eqb-true, eqb-false}
 use Rattle.history.specs.declared.Op.{Op}
 use Rattle.history.specs.Table.{history, largest_count}
-use Rattle.history.specs.Answer.{numbers}
 use Rattle.methods.specs.Mark.{Outcome, mark}
 use Rattle.atomicity.specs.Check.{check}
 use Rattle.marks.specs.Marks.{most_trials}
@@ -20,7 +19,6 @@ use Rattle.meaning.specs.Demand.{Demand}
 use Rattle.meaning.proofs.Demand.{demand_3}
 use Rattle.meaning.proofs.Outcomes.{marked?}
 use Rattle.preparation.proofs.Rows.{history_rows}
-use Rattle.text.specs.Decimal.{line}
 use Rattle.lines.specs.Lines.{answers_of, check_line}
 use Rattle.lines.proofs.Bounds.{check_bound, order_of_bound, answers_bound}
 use Rattle.sheet.specs.Sheet.{heading, outcome_to, order_line, orders_of, page_of, sheet_of, exam_of}

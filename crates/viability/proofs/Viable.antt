@@ -5,15 +5,13 @@ use Prim.Native.Nat.{ℕ, ◌≤◌, ◌<◌}
 use mathlib.Core.Path.{◌≡◌, refl, sym, ap, ◌∙◌}
 use mathlib.Core.Logic.{◌⊎◌, inl, inr}
 use mathlib.Core.Bool.{Bool, true, false, ◌||◌}
-use mathlib.Core.List.Memᴰ.{head as here}
-use mathlib.Core.List.Memᴰ.{tail as there}
 use mathlib.Core.List.{List, [], ◌∷◌, ◌++◌, map, Memᴰ as In}
 use native.Mathlib.Omega.{arith}
 use lib.ListN.{take}
 use borrow.Author.Tests.{eqb-true, eq-eqb, not-true}
 use Rattle.lists.specs.Lists.{all}
 use Rattle.lists.specs.Pairs.{Pairs, nil}
-use Rattle.lists.proofs.Tests.{test, both, true_not, and_true, true_and, or_true, true_or}
+use Rattle.lists.proofs.Tests.{both, true_not, and_true, true_and, or_true, true_or}
 use Rattle.lists.proofs.Every.{All?, each, all?, true_all}
 use Rattle.lists.proofs.Pairs.{pairs_head, pairs_tail}
 use Rattle.history.specs.declared.Op.{Op}

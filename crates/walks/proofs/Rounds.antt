@@ -4,8 +4,6 @@ use Prim.Native.Nat.{ℕ, zero, suc, ◌≤◌}
 use mathlib.Core.Path.{◌≡◌, refl, sym, ap}
 use mathlib.Core.Bool.{Bool, true, false}
 use mathlib.Core.List.Memᴰ
-use mathlib.Core.List.Memᴰ.{head as here}
-use mathlib.Core.List.Memᴰ.{tail as there}
 use mathlib.Core.List.{List, [], ◌∷◌, ◌++◌, Memᴰ as In}
 use native.Mathlib.Omega.{arith}
 use lib.ListN.{length}
@@ -13,7 +11,7 @@ use borrow.Author.Tests.{leb-true, leb-false, le-ltb}
 use Rattle.lists.specs.Pairs.{Pairs}
 use Rattle.lists.proofs.Tests.{both, true_not}
 use Rattle.lists.proofs.Members.{in_keep, keep_in}
-use Rattle.lists.proofs.Every.{All?, each, some_not, all?}
+use Rattle.lists.proofs.Every.{All?, some_not, all?}
 use Rattle.lists.proofs.Counts.{keep_length}
 use Rattle.lists.proofs.Pairs.{pairs_keep}
 use Rattle.lists.proofs.Sorts.{in_sort, sort_in, sort_length, sort_ordered, sort_apart}

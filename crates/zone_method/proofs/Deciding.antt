@@ -4,8 +4,6 @@ use Prim.Native.Nat.{ℕ, suc, ◌+◌, ◌*◌, ◌≤◌, ◌<◌}
 use mathlib.Core.Path.{◌≡◌, refl, ap, sym, ◌∙◌}
 use mathlib.Core.Logic.{◌⊎◌, inl, inr}
 use mathlib.Core.Bool.{Bool, true, false, cond}
-use mathlib.Core.List.Memᴰ.{head as here}
-use mathlib.Core.List.Memᴰ.{tail as there}
 use mathlib.Core.List.{List, [], ◌∷◌, map, Memᴰ as In}
 use native.Mathlib.Omega.{arith}
 use lib.Dec.{ltb}
@@ -20,7 +18,7 @@ use Rattle.lists.proofs.Entries.{flat_long, flat_at}
 use Rattle.lists.proofs.Images.{map_twice}
 use Rattle.lists.proofs.Sorts.{in_sort, by_key}
 use Rattle.history.specs.declared.Op.{Op}
-use Rattle.history.specs.Table.{history, is_opening}
+use Rattle.history.specs.Table.{is_opening}
 use Rattle.history.specs.Screen.{Screened}
 use Rattle.methods.specs.declared.Zone.{Zone}
 use Rattle.methods.specs.Prepared.{prepared}

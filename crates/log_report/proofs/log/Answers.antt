@@ -2,12 +2,9 @@ use Rattle.summary.proofs.Telling.{meant}
 use Rattle.log_report.proofs.log.Goals as goal
 -- The log is refused, or its table is reported.
 use native.Mathlib.Omega.{arith}
-use borrow.Author.Rules.{rules}
 use Rattle.log_tables.proofs.Room.{table_whole, loaded_as, loaded_small, loaded_few, loaded_front, loaded_long, loaded_in}
 use Rattle.printing.proofs.Filing.{loading_refused, loading_printed}
 use Rattle.report.proofs.Reporting.{report_whole}
-use Rattle.log_report.proofs.log.Statement.{statement}
-use Rattle.log_report.proofs.log.Tie as tie
 
 pub returns-then-loaded-ne-FRESH : goal.returns-then-loaded-ne-FRESH
 returns-then-loaded-ne-FRESH c = record { text = loading_refused _ _ _ _ (loaded_as _ _ _ c.load-loaded.ensures.outcome.0 (omega arith)) _ _ c.if-loaded-ne-FRESH.true c.refusal.ensures; said = meant _ }

@@ -2,12 +2,9 @@ use Rattle.summary.proofs.Telling.{meant}
 use Rattle.report.proofs.road.Goals as goal
 -- The file is refused, or its table is reported.
 use native.Mathlib.Omega.{arith}
-use borrow.Author.Rules.{rules}
 use Rattle.files.proofs.Loading.{table_whole, loaded_as, loaded_small, loaded_few, loaded_front, loaded_long, loaded_in}
 use Rattle.printing.proofs.Filing.{loading_refused, loading_printed}
 use Rattle.report.proofs.Reporting.{report_whole}
-use Rattle.report.proofs.road.Statement.{statement}
-use Rattle.report.proofs.road.Tie as tie
 
 pub returns-then-loaded-ne0 : goal.returns-then-loaded-ne0
 returns-then-loaded-ne0 c = record { text = loading_refused _ _ _ _ (loaded_as _ _ _ c.read-loaded.ensures.outcome.0 (omega arith)) _ _ c.if-loaded-ne0.true c.refusal.ensures; said = meant _ }
