@@ -5,6 +5,9 @@ use Prim.Native.Nat.{ℕ, min, max, ◌≤◌, ◌<◌}
 use mathlib.Core.Path.{◌≡◌, refl, ap}
 use mathlib.Core.Logic.{◌≢◌, ◌⊎◌, inl, inr, ⊎_elim}
 use mathlib.Core.List.Memᴰ
+use mathlib.Core.List.Memᴰ.{append_left as on-left}
+use mathlib.Core.List.Memᴰ.{append_right as on-right}
+use mathlib.Core.List.Memᴰ.{head as here}
 use mathlib.Core.List.{
   List,
   ◌∷◌,

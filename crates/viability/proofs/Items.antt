@@ -5,6 +5,8 @@ use mathlib.Core.Path.{◌≡◌, refl, sym, ap}
 use mathlib.Core.Logic.{◌⊎◌, inl, inr}
 use mathlib.Core.Bool.{Bool, true, false, not}
 use mathlib.Core.List.Memᴰ
+use mathlib.Core.List.Memᴰ.{eq_of_singleton as alone}
+use mathlib.Core.List.Memᴰ.{head as here}
 use mathlib.Core.List.{List, map, Memᴰ as In}
 use native.Mathlib.Omega.{arith}
 use native.Mathlib.Decide.{dec_lt}

@@ -4,6 +4,9 @@ use Prim.Native.Nat.{ℕ, ◌≤◌}
 use mathlib.Core.Path.{◌≡◌, refl, sym, ap, ◌∙◌}
 use mathlib.Core.Logic.{◌⊎◌, inl, inr, ⊎_elim}
 use mathlib.Core.List.Memᴰ
+use mathlib.Core.List.Memᴰ.{eq_of_singleton as alone}
+use mathlib.Core.List.Memᴰ.{head as here}
+use mathlib.Core.List.Memᴰ.{tail as there}
 use mathlib.Core.List.{List, [], ◌∷◌, flat_map, Memᴰ as In, append_assoc, ◌++◌}
 use native.Mathlib.Omega.{arith}
 use lib.ListN.{length}

@@ -2,6 +2,8 @@
 -- what is in a later one. The zone method and FZF both rest on it.
 -- Assumes nothing.
 use Prim.Native.Nat.{ℕ, suc}
+use mathlib.Core.List.Memᴰ.{head as here}
+use mathlib.Core.List.Memᴰ.{tail as there}
 use mathlib.Core.List.{List, [], ◌∷◌, ◌++◌, flat_map, Memᴰ as In}
 use mathlib.Core.Path.{refl}
 use lib.ListN.{take}

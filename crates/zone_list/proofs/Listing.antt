@@ -3,6 +3,8 @@
 use Prim.Native.Nat.{ℕ, suc, ◌+◌, ◌*◌, ◌≤◌, ◌<◌}
 use mathlib.Core.Path.{◌≡◌, refl, ap, sym, ◌∙◌}
 use mathlib.Core.Bool.{Bool, true, false}
+use mathlib.Core.List.Memᴰ.{head as here}
+use mathlib.Core.List.Memᴰ.{tail as there}
 use mathlib.Core.List.{List, [], ◌∷◌, ◌++◌, map, flat_map, Memᴰ as In}
 use native.Mathlib.Omega.{arith}
 use lib.Dec.{eqb}
@@ -30,6 +32,7 @@ use Rattle.columns.specs.Rows.{Listed}
 use Rattle.columns.specs.Made.{Made}
 use Rattle.columns.proofs.Listed.{listed_ops, in_history}
 use Rattle.columns.proofs.Made.{prepared_rows, value_at}
+use Rattle.columns.proofs.Lent.{rows_long as lent_long}
 use Rattle.zones.specs.Zones.{zone_by, Ends, Zoned, writes_at, by_low}
 use Rattle.zones.proofs.LastStarts.{sound_ends}
 use Rattle.zones.proofs.ByLow.{write_of, zone_at, by_low_lem, by_low_in, by_low_write}
