@@ -5,31 +5,34 @@ use parsing::Number;
 
 fn main(rt: HostRuntime) {
     if !console::is_given(&rt, 2) || console::is_given(&rt, 3) {
-        console::complain(&rt, "usage: answers QUESTION ALLOWANCE <HISTORY\n");
+        console::complain(
+            &rt.stderr(),
+            b"usage: answers QUESTION ALLOWANCE <HISTORY\n",
+        );
         return;
     }
     let Number::Is(question) = console::number(&rt, 1) else {
         console::complain(
-            &rt,
-            "answers: QUESTION is not a decimal number of 64 bits\n",
+            &rt.stderr(),
+            b"answers: QUESTION is not a decimal number of 64 bits\n",
         );
         return;
     };
     let Number::Is(allowance) = console::number(&rt, 2) else {
         console::complain(
-            &rt,
-            "answers: ALLOWANCE is not a decimal number of 64 bits\n",
+            &rt.stderr(),
+            b"answers: ALLOWANCE is not a decimal number of 64 bits\n",
         );
         return;
     };
     let mut input = [0u8; files::LONGEST];
-    let got = console::take(&mut rt.reader(), &mut input);
+    let got = console::take(&mut rt.stdin(), &mut input);
     if !got.sound {
-        console::complain(&rt, "answers: standard input cannot be read\n");
+        console::complain(&rt.stderr(), b"answers: standard input cannot be read\n");
         return;
     }
     let n = got.count;
     let mut out = [0u8; 131072];
     let printed = answer_report::road(&input[..n], question, allowance, &mut out);
-    console::print(&rt, &out, printed.rows);
+    console::print(&rt, &rt.stderr(), &out, printed.rows);
 }

@@ -5,25 +5,31 @@ use parsing::Number;
 
 fn main(rt: HostRuntime) {
     if !console::is_given(&rt, 2) || console::is_given(&rt, 3) {
-        console::complain(&rt, "usage: bench REGISTER ALLOWANCE <HISTORY\n");
+        console::complain(&rt.stderr(), b"usage: bench REGISTER ALLOWANCE <HISTORY\n");
         return;
     }
     let Number::Is(register) = console::number(&rt, 1) else {
-        console::complain(&rt, "bench: REGISTER is not a decimal number of 64 bits\n");
+        console::complain(
+            &rt.stderr(),
+            b"bench: REGISTER is not a decimal number of 64 bits\n",
+        );
         return;
     };
     let Number::Is(allowance) = console::number(&rt, 2) else {
-        console::complain(&rt, "bench: ALLOWANCE is not a decimal number of 64 bits\n");
+        console::complain(
+            &rt.stderr(),
+            b"bench: ALLOWANCE is not a decimal number of 64 bits\n",
+        );
         return;
     };
     let mut input = [0u8; files::LONGEST];
-    let got = console::take(&mut rt.reader(), &mut input);
+    let got = console::take(&mut rt.stdin(), &mut input);
     if !got.sound {
-        console::complain(&rt, "bench: standard input cannot be read\n");
+        console::complain(&rt.stderr(), b"bench: standard input cannot be read\n");
         return;
     }
     let n = got.count;
     let mut out = [0u8; 65536];
     let printed = file_sheets::bench(&input[..n], register, allowance, &mut out);
-    console::print(&rt, &out, printed.rows);
+    console::print(&rt, &rt.stderr(), &out, printed.rows);
 }

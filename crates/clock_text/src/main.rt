@@ -6,13 +6,13 @@ use parsing::Number;
 
 fn main(rt: HostRuntime) {
     if !console::is_given(&rt, 1) || console::is_given(&rt, 2) {
-        console::complain(&rt, "usage: clock_text STAMP\n");
+        console::complain(&rt.stderr(), b"usage: clock_text STAMP\n");
         return;
     }
     let Number::Is(stamp) = console::number(&rt, 1) else {
         console::complain(
-            &rt,
-            "clock_text: STAMP is not a decimal number of 64 bits\n",
+            &rt.stderr(),
+            b"clock_text: STAMP is not a decimal number of 64 bits\n",
         );
         return;
     };
@@ -21,10 +21,10 @@ fn main(rt: HostRuntime) {
     let written = clock::write(stamp, &mut line);
     if written.code != Answer::FRESH {
         console::complain(
-            &rt,
-            "clock_text: STAMP is over the largest stamp, 4611686018427387903\n",
+            &rt.stderr(),
+            b"clock_text: STAMP is over the largest stamp, 4611686018427387903\n",
         );
         return;
     }
-    console::print(&rt, &line, written.rows + 1);
+    console::print(&rt, &rt.stderr(), &line, written.rows + 1);
 }

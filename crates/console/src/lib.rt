@@ -1,4 +1,5 @@
-// What the programs ask of the system: all of an input, a number among the arguments, printing, complaining.
+// What the programs ask of the system: all of an input, a number among the arguments, printing, complaining. The contracts of the C library's
+// calls, which std reaches, are assumed.
 #![tactic(auto)]
 
 ghost use Rattle.std.specs.Prelude.{◌≡◌, ◌≤◌, length};
@@ -10,7 +11,7 @@ use parsing::{Count, Number};
 use std::env::{Env, FillError};
 use std::fs;
 use std::fs::Files;
-use std::io::{Eprint, Print, Read};
+use std::io::{Print, Read, Stderr};
 
 // How many bytes of an input stand at the front of the buffer, and whether no read failed.
 #[derive(Clone, Copy)]
@@ -140,16 +141,16 @@ pub fn number<R: Env>(rt: &R, place: usize) -> Number {
 }
 
 // Prints the front of a text, or nothing where the text is not so long. Nothing is promised: no contract can say what the system takes.
-pub fn print<R: Print + Eprint>(rt: &R, text: &[u8], length: u64) {
+pub fn print<P: Print>(out: &P, errors: &Stderr, text: &[u8], length: u64) {
     if length <= text.len() as u64 {
         let n = length as usize;
-        if rt.write_all(&text[..n]).is_err() {
-            complain(rt, "standard output cannot be written\n");
+        if out.write_all(&text[..n]).is_err() {
+            complain(errors, b"standard output cannot be written\n");
         }
     }
 }
 
 // Writes a line to standard error. Nothing is promised, as of `print`.
-pub fn complain<R: Eprint>(rt: &R, line: &str) {
-    let _ = rt.eprint(line);
+pub fn complain(errors: &Stderr, line: &[u8]) {
+    let _ = errors.write_all(line);
 }

@@ -14,20 +14,20 @@ fn buffer() -> [u8; 1048577]
 
 fn main(rt: HostRuntime) {
     let mut input = buffer();
-    let got = console::take(&mut rt.reader(), &mut input);
+    let got = console::take(&mut rt.stdin(), &mut input);
     if !got.sound {
-        console::complain(&rt, "log: standard input cannot be read\n");
+        console::complain(&rt.stderr(), b"log: standard input cannot be read\n");
         return;
     }
     let n = got.count;
     if LONGEST < n {
         console::complain(
-            &rt,
-            "log: standard input is longer than 1 MiB, and was not read\n",
+            &rt.stderr(),
+            b"log: standard input is longer than 1 MiB, and was not read\n",
         );
         return;
     }
     let mut out = [0u8; 131072];
     let printed = log_report::log(&input[..n], &mut out);
-    console::print(&rt, &out, printed.rows);
+    console::print(&rt, &rt.stderr(), &out, printed.rows);
 }

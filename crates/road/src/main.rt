@@ -3,13 +3,13 @@
 
 fn main(rt: HostRuntime) {
     let mut input = [0u8; files::LONGEST];
-    let got = console::take(&mut rt.reader(), &mut input);
+    let got = console::take(&mut rt.stdin(), &mut input);
     if !got.sound {
-        console::complain(&rt, "road: standard input cannot be read\n");
+        console::complain(&rt.stderr(), b"road: standard input cannot be read\n");
         return;
     }
     let n = got.count;
     let mut out = [0u8; 131072];
     let printed = report::road(&input[..n], &mut out);
-    console::print(&rt, &out, printed.rows);
+    console::print(&rt, &rt.stderr(), &out, printed.rows);
 }

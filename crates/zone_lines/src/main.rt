@@ -5,24 +5,24 @@ use parsing::Number;
 
 fn main(rt: HostRuntime) {
     if !console::is_given(&rt, 1) || console::is_given(&rt, 2) {
-        console::complain(&rt, "usage: zone_lines REGISTER <HISTORY\n");
+        console::complain(&rt.stderr(), b"usage: zone_lines REGISTER <HISTORY\n");
         return;
     }
     let Number::Is(register) = console::number(&rt, 1) else {
         console::complain(
-            &rt,
-            "zone_lines: REGISTER is not a decimal number of 64 bits\n",
+            &rt.stderr(),
+            b"zone_lines: REGISTER is not a decimal number of 64 bits\n",
         );
         return;
     };
     let mut input = [0u8; files::LONGEST];
-    let got = console::take(&mut rt.reader(), &mut input);
+    let got = console::take(&mut rt.stdin(), &mut input);
     if !got.sound {
-        console::complain(&rt, "zone_lines: standard input cannot be read\n");
+        console::complain(&rt.stderr(), b"zone_lines: standard input cannot be read\n");
         return;
     }
     let n = got.count;
     let mut out = [0u8; 131072];
     let printed = zone_report::zones(&input[..n], register, &mut out);
-    console::print(&rt, &out, printed.rows);
+    console::print(&rt, &rt.stderr(), &out, printed.rows);
 }
