@@ -218,7 +218,7 @@ pub fn search(
     let mut low = top;
     let mut from: usize = 0;
     let mut trials: u64 = 0;
-    loop {
+    'rounds: loop {
         low = newest(writer, placed, low);
         if low == 0 {
             return Search::Fresh(at, to, trials);

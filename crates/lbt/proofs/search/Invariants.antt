@@ -4,8 +4,8 @@ use Rattle.placing.specs.States.{state_of}
 use Rattle.lbt.proofs.Walking.{Walking}
 use Rattle.lbt.proofs.search.Given as goal
 
-abbrev pub invariant-loop-low : goal.invariant-loop-low
-invariant-loop-low l = Walking (cols l.start l.finish l.writer l.last l.prev) l.falling l.allowance (state_of l.initial.placed l.initial.order l.initial.at l.initial.top) (state_of l.placed l.order l.at l.top) l.low l.from l.trials
+abbrev pub invariant-rounds : goal.invariant-rounds
+invariant-rounds l = Walking (cols l.start l.finish l.writer l.last l.prev) l.falling l.allowance (state_of l.initial.placed l.initial.order l.initial.at l.initial.top) (state_of l.placed l.order l.at l.top) l.low l.from l.trials
 
-abbrev pub decreases-loop-low : goal.decreases-loop-low
-decreases-loop-low l = l.at
+abbrev pub decreases-rounds : goal.decreases-rounds
+decreases-rounds l = l.at
