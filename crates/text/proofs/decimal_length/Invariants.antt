@@ -1,4 +1,4 @@
--- The loop takes digits off the end: the whole has as many digits as were counted and are left (the invariant), by digits_last and digits-more-length.
+-- The loop takes digits off the end: the whole has as many digits as were counted and are left (the invariant), by digits_last and digits_more_length.
 use Prim.Native.Nat.{◌+◌, ◌-◌, ◌≤◌}
 use mathlib.Core.Path.{◌≡◌}
 use lib.ListN.{length}
