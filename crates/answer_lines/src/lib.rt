@@ -23,11 +23,8 @@ pub fn show<R: Print>(rt: &R, name: &[u8], a: Answer) {
 
 // A list, on a line of its own.
 pub fn places<R: Print>(rt: &R, list: &[u64]) {
-    let n = list.len();
-    let mut i: usize = 0;
-    while i < n {
-        field(rt, list[i]);
-        i += 1;
+    for place in list {
+        field(rt, *place);
     }
     let _ = rt.write_all(b"\n");
 }

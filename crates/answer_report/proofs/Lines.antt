@@ -9,7 +9,8 @@ use lib.ListN.{length, set, drop, length-append}
 use lib.Seq.{sets}
 use Rattle.history.specs.declared.Answer.{Answer}
 use Rattle.history.specs.Table.{largest_count, row_count}
-use Rattle.history.specs.Answer.{numbers, no_such_question, refused}
+use Rattle.history.specs.Answer.{numbers, refused}
+use Rattle.history.specs.declared.Code.TheVariants.{NoSuchQuestion}
 use Rattle.methods.specs.Mark.{no_question, written}
 use Rattle.text.specs.Decimal.{line, lines_of}
 use Rattle.text.proofs.Joins.{line_length, lines_length}
@@ -52,7 +53,7 @@ module _ (t : List ℕ) (question allowance : ℕ) where
       f = line_of t question allowance
 
   -- a question that is refused has its line
-  pub text_refused : no_question question ≡ true → refused_line (refused no_such_question 0) ≡ answers_text question allowance t
+  pub text_refused : no_question question ≡ true → refused_line (refused NoSuchQuestion 0) ≡ answers_text question allowance t
   unfolding answers_text
   text_refused n = sym (rw n refl)
 
@@ -64,6 +65,6 @@ text_bound t question allowance f = go (no_question question)
     lines : List ℕ
     lines = lines_of 5 (length (registers t)) (numbers_of t question allowance (registers t))
 
-    go : (b : Bool) → length (cond b (refused_line (refused no_such_question 0)) (header ++ lines)) ≤ 108574
+    go : (b : Bool) → length (cond b (refused_line (refused NoSuchQuestion 0)) (header ++ lines)) ≤ 108574
     go true = omega (arith, length-append refused_word (line (3 ∷ 0 ∷ [])), line_length (3 ∷ 0 ∷ []))
     go false = omega (arith, f, length-append header lines, lines_length 5 (length (registers t)) (numbers_of t question allowance (registers t)), registers_few t)

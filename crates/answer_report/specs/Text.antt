@@ -2,7 +2,8 @@
 -- Assumes nothing.
 use Rattle.std.specs.Prelude.{ℕ, cond, length}
 use mathlib.Core.List.{List, [], ◌∷◌, ◌++◌, flat_map}
-use Rattle.history.specs.Answer.{no_such_question, refused}
+use Rattle.history.specs.Answer.{refused}
+use Rattle.history.specs.declared.Code.TheVariants.{NoSuchQuestion}
 use Rattle.methods.specs.Mark.{no_question}
 use Rattle.text.specs.Decimal.{lines_of}
 use Rattle.printing.specs.Texts.{refused_line}
@@ -32,7 +33,7 @@ numbers_of t question allowance registers = flat_map (line_of t question allowan
 unfoldable pub answers_text : ℕ → ℕ → List ℕ → List ℕ
 answers_text question allowance t =
     let lines = lines_of 5 (length (registers t)) (numbers_of t question allowance (registers t)) in
-    cond (no_question question) (refused_line (refused no_such_question 0)) (header ++ lines)
+    cond (no_question question) (refused_line (refused NoSuchQuestion 0)) (header ++ lines)
 
 -- what the code on each line says
 abbrev pub Meant : List ℕ → ℕ → ℕ → Type 0

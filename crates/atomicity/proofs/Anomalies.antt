@@ -8,15 +8,15 @@ use mathlib.Core.Bool.{true}
 use mathlib.Core.List.{List, [], ◌∷◌, Memᴰ as In}
 use native.Mathlib.Omega.{arith}
 use lib.ListN.{length}
-use Rattle.lists.specs.declared.Found.{Found}
-use Rattle.lists.specs.declared.Found.TheVariants.{At, Nothing}
+use Rattle.std.specs.Prelude.{Option, Some, None}
 use Rattle.lists.proofs.Tests.{told_false, false_told}
 use Rattle.lists.proofs.Members.{nothing_none, none_nothing}
 use Rattle.lists.proofs.Maps.{in_map, map_in}
 use Rattle.history.specs.declared.Op.{Op}
 use Rattle.history.specs.declared.Answer.{Answer}
 use Rattle.history.specs.Table.{op_at, rows_of, history, is_write, Precedes, Dictates}
-use Rattle.history.specs.Answer.{number, orphan_read, early_read, Test, test, lowest_row, refused_or, first_met, passed}
+use Rattle.history.specs.Answer.{number, Test, test, lowest_row, refused_or, first_met, passed}
+use Rattle.history.specs.declared.Code.TheVariants.{OrphanRead, EarlyRead}
 use Rattle.history.specs.Screen.{rewrites, unwritten, too_early, tests, examined, screening}
 use Rattle.history.proofs.Rows.{in_rows, rows_in_lem}
 use Rattle.history.proofs.Screened.{told_rewrites, told_unwritten, told_early}
@@ -25,15 +25,15 @@ use Rattle.atomicity.specs.Anomalies.{Anomaly, undictated, early, DistinctValues
 
 -- The first condition met has the code c: a test of another code is not met, and one that is not met does not count.
 module _ (x : Test) (xs : List Test) (a : Answer) {c : ℕ} (e : (first_met (x ∷ xs) a).code ≡ c) where
-  not_yet : number x.code ≢ c → (x.fault ≡ Nothing) × ((first_met xs a).code ≡ c)
+  not_yet : number x.code ≢ c → (x.fault ≡ None) × ((first_met xs a).code ≡ c)
   unfolding first_met
   not_yet n = go x.fault e
     where
-      go : (f : Found) → (refused_or x.code f (first_met xs a)).code ≡ c → (f ≡ Nothing) × ((first_met xs a).code ≡ c)
-      go (At row) q = absurd (n q)
-      go Nothing q = (refl, q)
+      go : (f : Option ℕ) → (refused_or x.code f (first_met xs a)).code ≡ c → (f ≡ None) × ((first_met xs a).code ≡ c)
+      go (Some row) q = absurd (n q)
+      go None q = (refl, q)
 
-  unmet : x.fault ≡ Nothing → (first_met xs a).code ≡ c
+  unmet : x.fault ≡ None → (first_met xs a).code ≡ c
   unfolding first_met
   unmet f = rw f at e
 
@@ -81,8 +81,8 @@ module _ (t : List ℕ) (register : ℕ) where
   -- CODES 8 AND 9 OF THE SCREENING: test 7 is passed before them, so no value is written twice.
 
   behind_seven : {c : ℕ} → 7 < c → c < 20 → (screening t register).code ≡ c →
-      (lowest_row (rewrites h) h ≡ Nothing)
-      × ((first_met (test orphan_read (lowest_row (unwritten h) h) ∷ test early_read (lowest_row (too_early h) h) ∷ []) (passed (length h))).code ≡ c)
+      (lowest_row (rewrites h) h ≡ None)
+      × ((first_met (test OrphanRead (lowest_row (unwritten h) h) ∷ test EarlyRead (lowest_row (too_early h) h) ∷ []) (passed (length h))).code ≡ c)
   unfolding screening examined tests
   behind_seven l m e =
       let two = (not_yet _ _ _ e (omega (arith, l, m))).1 in
@@ -98,7 +98,7 @@ module _ (t : List ℕ) (register : ℕ) where
   unfolding history op_at
   by_row_lem m = let (i, n, e) = in_map (op_at t) (rows_of t register) m in e ∙ ap (op_at t) (sym (ap (λ o. o.row) e))
 
-  distinct : lowest_row (rewrites h) h ≡ Nothing → DistinctValues h
+  distinct : lowest_row (rewrites h) h ≡ None → DistinctValues h
   distinct e v w i j k l q =
       let a : v.row < w.row → ⊥ = λ r. no_twin v w i j k l q r in
       let b : w.row < v.row → ⊥ = λ r. no_twin w v j i l k (sym q) r in
@@ -113,7 +113,7 @@ module _ (t : List ℕ) (register : ℕ) where
   unfolding first_met
   met_none e = sym e
 
-  pub refused_no_order : ((screening t register).code ≡ number orphan_read) ⊎ ((screening t register).code ≡ number early_read) → NeverAtomic t register
+  pub refused_no_order : ((screening t register).code ≡ number OrphanRead) ⊎ ((screening t register).code ≡ number EarlyRead) → NeverAtomic t register
   refused_no_order (inl e) k order a =
       let q = (behind_seven (omega arith) (omega arith) e).1 in
       let written = none_nothing (λ o. o.row) (unwritten h) h (λ o m. false_told (told_unwritten h o)

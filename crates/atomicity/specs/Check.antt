@@ -1,12 +1,11 @@
 -- The order check (document 01, codes 13 to 15): a list of row numbers, held to the definitions of Order.antt position by position.
 -- Assumes nothing.
-use Rattle.std.specs.Prelude.{ℕ, ◌≢◌, Bool, cond, not, ◌&&◌, ◌||◌, List, [], ◌∷◌, ◌++◌, ltb, eqb, length, get_or}
-use Rattle.lists.specs.declared.Found.{Found}
-use Rattle.lists.specs.declared.Found.TheVariants.{At, Nothing}
+use Rattle.std.specs.Prelude.{ℕ, ◌≢◌, Bool, cond, not, ◌&&◌, ◌||◌, List, [], ◌∷◌, ◌++◌, ltb, eqb, length, get_or, Option, Some, None}
 use Rattle.lists.specs.Lists.{up_to, any, first}
 use Rattle.history.specs.declared.Answer.{Answer}
 use Rattle.history.specs.Table.{row_count, bears, rows_of, history, is_read, precedes, dictates}
-use Rattle.history.specs.Answer.{misfit_list, out_of_time, too_far_behind, Test, test, first_met, passed}
+use Rattle.history.specs.Answer.{Test, test, first_met, passed}
+use Rattle.history.specs.declared.Code.TheVariants.{MisfitList, OutOfTime, TooFarBehind}
 use Rattle.history.specs.Screen.{tests, Screened}
 use Rattle.atomicity.specs.Order.{placed, writes_between, Atomic}
 
@@ -38,20 +37,20 @@ unfoldable pub too_far : ℕ → List ℕ → List ℕ → ℕ → Bool
 too_far k t order p = is_read (placed t order p) && not (any (near_at k t order p) (up_to p))
 
 -- the lowest position that meets the condition (01's table, the row field of 13 to 15)
-abbrev pub lowest_at : (ℕ → Bool) → List ℕ → Found
+abbrev pub lowest_at : (ℕ → Bool) → List ℕ → Option ℕ
 lowest_at f order = first (λ p. p) f (up_to (length order))
 
 -- 13 again: where rows are missing, the row field is the list's length
-unfoldable pub missing : List ℕ → ℕ → List ℕ → Found
-missing t register order = cond (ltb (length order) (length (rows_of t register))) (At (length order)) Nothing
+unfoldable pub missing : List ℕ → ℕ → List ℕ → Option ℕ
+missing t register order = cond (ltb (length order) (length (rows_of t register))) (Some (length order)) None
 
 -- Tests 13, 14 and 15, a line each, in their sequence (01, "The answer and its numbers").
 unfoldable pub order_tests : List ℕ → ℕ → ℕ → List ℕ → List Test
 order_tests t register k order =
-    test misfit_list (lowest_at (misfits t register order) order)
-    ∷ test misfit_list (missing t register order)
-    ∷ test out_of_time (lowest_at (late t order) order)
-    ∷ test too_far_behind (lowest_at (too_far k t order) order)
+    test MisfitList (lowest_at (misfits t register order) order)
+    ∷ test MisfitList (missing t register order)
+    ∷ test OutOfTime (lowest_at (late t order) order)
+    ∷ test TooFarBehind (lowest_at (too_far k t order) order)
     ∷ []
 
 -- Tests 1 to 9, with a k of 0 as test 3, then 13 to 15 (01, "The answer and its numbers").

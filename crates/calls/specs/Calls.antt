@@ -1,13 +1,9 @@
 -- What the exported calls leave: the answer's four numbers in a lent slice, and where a text is read, the answer that tells of it.
 -- Assumes nothing.
-use Rattle.std.specs.Prelude.{ℕ, ◌≡◌, List}
+use Rattle.std.specs.Prelude.{ℕ, ◌≡◌, List, Option, Some, None}
 use Rattle.history.specs.declared.Answer.{Answer}
 use Rattle.history.specs.Answer.{refused_by, passed, list_after}
 use Rattle.printing.specs.Texts.{text_answer}
-use Rattle.parsing.specs.declared.Number.{Number}
-use Rattle.parsing.specs.declared.Number.TheVariants.{Is, Nothing}
-use Rattle.parsing.specs.declared.Count.{Count}
-use Rattle.parsing.specs.declared.Count.TheVariants.{Read, NoList}
 
 -- the lent slice before and after the answer is put at its front
 abbrev pub Says : Answer → List ℕ → List ℕ → Type 0
@@ -21,12 +17,7 @@ Prints text out before after = Says (text_answer text out) before after
 abbrev pub answer_of : ℕ → ℕ → ℕ → ℕ → Answer
 answer_of code row rows trials = record { code = code; row = row; rows = rows; trials = trials }
 
--- a number as an answer: code 0 and the number in the rows field, or code 1
-unfoldable pub number_answer : Number → Answer
-number_answer (Is x) = passed x
-number_answer Nothing = refused_by 1 0
-
--- a count of numbers as an answer: code 0 and the count in the rows field, or code 1
-unfoldable pub count_answer : Count → Answer
-count_answer (Read n) = passed n
-count_answer NoList = refused_by 1 0
+-- a number, or a count of numbers, as an answer: code 0 and the number in the rows field, or code 1
+unfoldable pub number_answer : Option ℕ → Answer
+number_answer (Some x) = passed x
+number_answer None = refused_by 1 0

@@ -24,10 +24,9 @@ ghost use Rattle.sheet.specs.Sheet.{sheet_of, exam_of};
 ghost use Rattle.file_sheets.specs.Files.{bench_of, exam_file};
 ghost use Rattle.parsing.specs.Numbers.{number_in, lines_in, counted, stored};
 ghost use Rattle.clock.specs.Clock.{clock_in, write_answer as clock_answer, write_text};
-ghost use Rattle.calls.specs.Calls.{Says, Prints, answer_of, number_answer, count_answer};
+ghost use Rattle.calls.specs.Calls.{Says, Prints, answer_of, number_answer};
 
 use history::Answer;
-use parsing::{Count, Number};
 
 #[unsafe(no_mangle)]
 pub extern "C" fn calls_mark(
@@ -251,10 +250,10 @@ pub extern "C" fn calls_refusal(
     ensures prints { Prints (refused_line (answer_of code row rows trials)) out.old to.old to.new }
 {
     let answer = Answer {
-        code: code,
-        row: row,
-        rows: rows,
-        trials: trials,
+        code,
+        row,
+        rows,
+        trials,
     };
     printing::refusal(answer, out).write(to);
 }
@@ -272,22 +271,19 @@ pub extern "C" fn calls_put_answer(
     ensures says { Says (answer_after list.old) to.old to.new }
 {
     let answer = Answer {
-        code: code,
-        row: row,
-        rows: rows,
-        trials: trials,
+        code,
+        row,
+        rows,
+        trials,
     };
     answer.write(list).write(to);
 }
 
-// A number as an answer: code 0 and the number in the rows field, or code 1.
-fn number_answer(number: Number) -> Answer
+// A number, or a count, as an answer: code 0 and the number in the rows field, or code 1.
+fn number_answer(number: Option<u64>) -> Answer
     ensures { result ≡ number_answer number }
 {
-    let Number::Is(x) = number else {
-        return Answer::refused(1, 0);
-    };
-    Answer::passed(x)
+    number.map_or(Answer::refused(1, 0), Answer::passed)
 }
 
 #[unsafe(no_mangle)]
@@ -297,22 +293,13 @@ pub extern "C" fn calls_number(text: &[u8], to: &mut [u64])
     number_answer(parsing::number_in(text)).write(to);
 }
 
-// A count of numbers as an answer: code 0 and the count in the rows field, or code 1.
-fn count_answer(count: Count) -> Answer
-    ensures { result ≡ count_answer count }
-{
-    let Count::Read(n) = count else {
-        return Answer::refused(1, 0);
-    };
-    Answer::passed(n as u64)
-}
-
 #[unsafe(no_mangle)]
 pub extern "C" fn calls_numbers(text: &[u8], list: &mut [u64], to: &mut [u64])
     ensures list_after { list.new ≡ stored (lines_in (length list.old) text.now) list.old }
-    ensures says { Says (count_answer (counted (lines_in (length list.old) text.now))) to.old to.new }
+    ensures says { Says (number_answer (counted (lines_in (length list.old) text.now))) to.old to.new }
 {
-    count_answer(parsing::list(text, list)).write(to);
+    let count = parsing::list(text, list).map(|n| n as u64);
+    number_answer(count).write(to);
 }
 
 #[unsafe(no_mangle)]

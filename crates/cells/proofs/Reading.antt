@@ -6,23 +6,22 @@ use mathlib.Core.Bool.{Bool, true, false, cond, ◌||◌}
 use mathlib.Core.List.{List, [], ◌∷◌}
 use native.Mathlib.Numerals.{add-one}
 use native.Mathlib.Omega.{arith}
-use borrow.Author.Tests.{eq-eqb, ne_eqb, eqb-true, lt-ltb, le-ltb, ltb-true, ltb-false}
+use borrow.Author.Tests.{eqb-true, lt-ltb, le-ltb, ltb-true, ltb-false}
 use lib.Dec.{eqb, ltb}
 use lib.ListN.{length, get_or, take, drop, drop_of_length-le, length-drop}
 use lib.Seq.{drop-cons}
 use Rattle.lists.specs.Lists.{all}
-use Rattle.parsing.specs.declared.Number.{Number}
-use Rattle.parsing.specs.declared.Number.TheVariants.{Is, Nothing}
+use Rattle.std.specs.Prelude.{Option, Some, None}
 use Rattle.parsing.specs.Numbers.{is_digit, worth, says, number_of}
 use Rattle.parsing.proofs.Values.{held_small, says_next, says_fits, says_not, number_empty, number_some}
 use Rattle.cells.specs.declared.Cell.{Cell}
-use Rattle.cells.specs.Parts.{comma, feed, kind_of, same}
+use Rattle.cells.specs.Parts.{comma, feed, kind_of}
 use Rattle.cells.specs.Steps.{cell_in, cell_at, end_of}
 
 abbrev pub stop : ℕ → Bool
 stop b = eqb b comma || eqb b feed
 
-pub cell_is : (e f : ℕ) (m n : Number) → e ≡ f → m ≡ n → ◌≡◌ {A = Cell} (record { end = e; number = m }) (record { end = f; number = n })
+pub cell_is : (e f : ℕ) (m n : Option ℕ) → e ≡ f → m ≡ n → ◌≡◌ {A = Cell} (record { end = e; number = m }) (record { end = f; number = n })
 cell_is e f m n p q = cc
 
 -- one byte of a cell
@@ -70,11 +69,11 @@ module _ (bs : List ℕ) (at : ℕ) where
   some_within h = omega (arith, cell_length (drop at bs), length-drop at bs)
 
 -- what is a digit does not end a cell
-pub digit_on : (v b w : ℕ) → says v (b ∷ []) ≡ Is w → stop b ≡ false
+pub digit_on : (v b w : ℕ) → says v (b ∷ []) ≡ Some w → stop b ≡ false
 unfolding says all is_digit
 digit_on v b w h = go (eqb b comma) (eqb b feed) refl refl
   where
-    no : (x : ℕ) → b ≡ x → says v (x ∷ []) ≡ Nothing → ⊥
+    no : (x : ℕ) → b ≡ x → says v (x ∷ []) ≡ None → ⊥
     no x e n = let z : ◌≡◌ {A = ℕ} 0 1 = cc in omega arith
 
     go : (d f : Bool) → eqb b comma ≡ d → eqb b feed ≡ f → (d || f) ≡ false
@@ -93,15 +92,15 @@ module _ (bs : List ℕ) (at : ℕ) where
   digits_none = record { small = omega arith; ends = refl; whole = refl }
 
   module _ (value i : ℕ) (g : Digits bs at value i) where
-    says_nothing : says value [] ≡ Is value
+    says_nothing : says value [] ≡ Some value
     unfolding says all worth
     says_nothing = held_small value g.small
 
-    pub digits_end : length bs ≤ i → (end_of bs at ≡ i) × (says 0 (cell_at bs at) ≡ Is value)
+    pub digits_end : length bs ≤ i → (end_of bs at ≡ i) × (says 0 (cell_at bs at) ≡ Some value)
     digits_end h = (omega (arith, g.ends, ap length (cell_none bs i h)), g.whole ∙ ap (says value) (cell_none bs i h) ∙ says_nothing)
 
     module _ (h : i < length bs) where
-      pub digits_more : (w : ℕ) → says value (get_or bs i 0 ∷ []) ≡ Is w → Digits bs at w (i + 1)
+      pub digits_more : (w : ℕ) → says value (get_or bs i 0 ∷ []) ≡ Some w → Digits bs at w (i + 1)
       digits_more w e =
           let on = cell_on bs i h (digit_on value (get_or bs i 0) w e) in
           record {
@@ -110,10 +109,10 @@ module _ (bs : List ℕ) (at : ℕ) where
             whole = g.whole ∙ ap (says value) on ∙ says_next value (get_or bs i 0) (cell_at bs (i + 1)) w e;
           }
 
-      pub digits_off : says value (get_or bs i 0 ∷ []) ≡ Nothing → says 0 (cell_at bs at) ≡ cond (ltb i (end_of bs i)) Nothing (Is value)
+      pub digits_off : says value (get_or bs i 0 ∷ []) ≡ None → says 0 (cell_at bs at) ≡ cond (ltb i (end_of bs i)) None (Some value)
       digits_off e = go (stop (get_or bs i 0)) refl
         where
-          go : (d : Bool) → stop (get_or bs i 0) ≡ d → says 0 (cell_at bs at) ≡ cond (ltb i (end_of bs i)) Nothing (Is value)
+          go : (d : Bool) → stop (get_or bs i 0) ≡ d → says 0 (cell_at bs at) ≡ cond (ltb i (end_of bs i)) None (Some value)
           go true q =
               let none = cell_stop bs i h q in
               g.whole ∙ ap (says value) none ∙ says_nothing ∙ rw (le-ltb i (end_of bs i) (omega (arith, ap length none)))
@@ -123,7 +122,7 @@ module _ (bs : List ℕ) (at : ℕ) where
 
 -- a kind cell
 module _ (bs : List ℕ) (at : ℕ) where
-  pub kind_other : (t : List ℕ) → (length t ≡ 1 → ⊥) → kind_of t ≡ Nothing
+  pub kind_other : (t : List ℕ) → (length t ≡ 1 → ⊥) → kind_of t ≡ None
   unfolding kind_of
   kind_other [] h = refl
   kind_other (b ∷ []) h = absurd (h refl)
@@ -146,36 +145,10 @@ module _ (bs : List ℕ) (at : ℕ) where
       begins true q = goes (ltb-true at (length bs) q) (stop (get_or bs at 0)) refl
       begins false q = absurd (omega (arith, ap length (cell_none bs at (ltb-false at (length bs) q))))
 
--- texts that are compared
-pub same_long : (x y : List ℕ) → (length x ≡ length y → ⊥) → same x y ≡ false
-unfolding same
-same_long [] [] h = absurd (h refl)
-same_long [] (b ∷ y) h = refl
-same_long (a ∷ x) [] h = refl
-same_long (a ∷ x) (b ∷ y) h = go (eqb a b) (same_long x y (λ e. h (ap suc e)))
-  where
-    go : (d : Bool) → same x y ≡ false → cond d (same x y) false ≡ false
-    go true e = e
-    go false e = refl
-
-module _ (x y : List ℕ) (i : ℕ) where
-  pub same_end : length x ≤ i → length y ≤ i → same (drop i x) (drop i y) ≡ true
-  unfolding same
-  same_end h g = rw (drop_of_length-le x h, drop_of_length-le y g)
-
-  module _ (h : i < length x) (g : i < length y) where
-    pub same_on : get_or x i 0 ≡ get_or y i 0 → same (drop i x) (drop i y) ≡ same (drop (i + 1) x) (drop (i + 1) y)
-    unfolding same
-    same_on e = rw (drop-cons x i 0 h, drop-cons y i 0 g, eq-eqb (get_or x i 0) (get_or y i 0) e, add-one i)
-
-    pub same_off : (get_or x i 0 ≡ get_or y i 0 → ⊥) → same (drop i x) (drop i y) ≡ false
-    unfolding same
-    same_off e = rw (drop-cons x i 0 h, drop-cons y i 0 g, ne_eqb (get_or x i 0) (get_or y i 0) e)
-
 -- a number cell: what its digits are worth, unless it is empty
 module _ (bs : List ℕ) (at : ℕ) where
   pub number_digits : at < end_of bs at → number_of (cell_at bs at) ≡ says 0 (cell_at bs at)
   number_digits h = number_some (cell_at bs at) (omega arith)
 
-  pub number_none : end_of bs at ≤ at → (at ≡ end_of bs at) × (Nothing ≡ number_of (cell_at bs at))
+  pub number_none : end_of bs at ≤ at → (at ≡ end_of bs at) × (None ≡ number_of (cell_at bs at))
   number_none h = (omega arith, sym (number_empty (cell_at bs at) (omega arith)))

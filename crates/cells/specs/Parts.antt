@@ -1,9 +1,7 @@
 -- The parts of a text between separators, and what a cell says (document 02, W-201).
 -- Assumes nothing.
-use Rattle.std.specs.Prelude.{ℕ, suc, Bool, true, false, cond, List, [], ◌∷◌, eqb, ltb, length, drop}
+use Rattle.std.specs.Prelude.{ℕ, suc, Bool, true, false, cond, List, [], ◌∷◌, eqb, ltb, length, drop, Option, Some, None}
 use Rattle.lists.specs.Lists.{keep}
-use Rattle.parsing.specs.declared.Number.{Number}
-use Rattle.parsing.specs.declared.Number.TheVariants.{Is, Nothing}
 
 -- The bytes that part a text: a comma between cells, a line feed behind a line (02, W-201).
 abbrev pub comma : ℕ
@@ -42,10 +40,10 @@ unfoldable pub lines_from : List ℕ → ℕ → ℕ → List Part
 lines_from bs n at = keep (λ l. ltb l.at (length bs)) (parts feed n at (drop at bs))
 
 -- What a kind cell says: w is a write, r a read (02, W-201, "Kind cells are w or r"), o the opening (02, W-207).
-unfoldable pub kind_of : List ℕ → Number
-kind_of [] = Nothing
-kind_of (b ∷ []) = cond (eqb b 119) (Is 1) (cond (eqb b 114) (Is 2) (cond (eqb b 111) (Is 3) Nothing))
-kind_of (b ∷ d ∷ t) = Nothing
+unfoldable pub kind_of : List ℕ → Option ℕ
+kind_of [] = None
+kind_of (b ∷ []) = cond (eqb b 119) (Some 1) (cond (eqb b 114) (Some 2) (cond (eqb b 111) (Some 3) None))
+kind_of (b ∷ d ∷ t) = None
 
 -- Two texts are the same, byte for byte (02, W-201: names).
 unfoldable pub same : List ℕ → List ℕ → Bool

@@ -1,7 +1,6 @@
 -- A text's cells from an offset on, as the code comes to them.
 -- Assumes nothing.
-use Rattle.std.specs.Prelude.{ℕ, ◌+◌, Bool, false, cond, ◌||◌, List, [], ◌∷◌, eqb, ltb, length, get_or, drop}
-use Rattle.parsing.specs.declared.Number.{Number}
+use Rattle.std.specs.Prelude.{ℕ, ◌+◌, Bool, false, cond, ◌||◌, List, [], ◌∷◌, eqb, ltb, length, get_or, drop, Option}
 use Rattle.parsing.specs.Numbers.{front}
 use Rattle.cells.specs.declared.Cell.{Cell}
 use Rattle.cells.specs.Parts.{comma, feed, Part, parts}
@@ -23,7 +22,7 @@ abbrev pub end_of : List ℕ → ℕ → ℕ
 end_of bs at = at + length (cell_at bs at)
 
 -- the cell that begins at an offset, and what it says
-abbrev pub saying : List ℕ → ℕ → Number → Cell
+abbrev pub saying : List ℕ → ℕ → Option ℕ → Cell
 saying bs at number = record { end = end_of bs at; number = number }
 
 -- a comma stands at an offset

@@ -1,21 +1,19 @@
 // The cells of a text: where one ends, and what it says. A comma or a line feed ends a cell.
 #![tactic(auto)]
 
-ghost use Rattle.std.specs.Prelude.{◌≡◌, cond, ◌||◌, ◌+◌, eqb, ltb};
-ghost use Rattle.parsing.specs.declared.Number.TheVariants.{Is, Nothing};
+ghost use Rattle.std.specs.Prelude.{◌≡◌, cond, ◌||◌, eqb, ltb};
 ghost use Rattle.parsing.specs.Numbers.{number_of, says};
 ghost use Rattle.clock.specs.Clock.{stamp_in};
-ghost use Rattle.cells.specs.Parts.{comma, feed, kind_of, same};
+ghost use Rattle.cells.specs.Parts.{comma, feed, kind_of};
 ghost use Rattle.cells.specs.Steps.{cell_at, end_of, saying, comma_at};
 
-use history::Op;
-use parsing::Number;
+use history::Kind;
 
 // Where a cell ends, and what it says.
 #[derive(Clone, Copy)]
 pub struct Cell {
     pub end: usize,
-    pub number: Number,
+    pub number: Option<u64>,
 }
 
 // Whether a byte ends a cell. Most bytes lie above the comma and the line feed below it, so that one comparison tells most bytes apart from both.
@@ -36,6 +34,7 @@ pub fn cell_end(bytes: &[u8], at: usize) -> usize
     ensures { result ≡ end_of bytes.now at }
 {
     let mut end = at;
+    // This loop is faster than `position`, and every byte of a log is in it.
     while end < bytes.len() {
         if stops(bytes[end]) {
             return end;
@@ -47,19 +46,11 @@ pub fn cell_end(bytes: &[u8], at: usize) -> usize
 
 // What a cell is worth of which `value` was read before `at`: nothing more may follow.
 fn broken_off(bytes: &[u8], at: usize, value: u64) -> Cell
-    ensures { result ≡ saying bytes.now at (cond (ltb at (end_of bytes.now at)) Nothing (Is value)) }
+    ensures { result ≡ saying bytes.now at (cond (ltb at (end_of bytes.now at)) None (Some value)) }
 {
     let end = cell_end(bytes, at);
-    if at < end {
-        return Cell {
-            end: end,
-            number: Number::Nothing,
-        };
-    }
-    Cell {
-        end: end,
-        number: Number::Is(value),
-    }
+    let number = if at < end { None } else { Some(value) };
+    Cell { end, number }
 }
 
 // The digits of the cell that starts at `at`; none are worth 0.
@@ -67,18 +58,15 @@ fn digits(bytes: &[u8], at: usize) -> Cell
     ensures { result ≡ saying bytes.now at (says 0 (cell_at bytes.now at)) }
 {
     let mut value = 0;
-    let mut i = at;
-    while i < bytes.len() {
-        let next = parsing::appended(value, bytes[i]);
-        let Number::Is(x) = next else {
+    for i in at..bytes.len() {
+        let Some(next) = parsing::appended(value, bytes[i]) else {
             return broken_off(bytes, i, value);
         };
-        i += 1;
-        value = x;
+        value = next;
     }
     Cell {
-        end: i,
-        number: Number::Is(value),
+        end: at.max(bytes.len()),
+        number: Some(value),
     }
 }
 
@@ -92,7 +80,7 @@ pub fn number_cell(bytes: &[u8], at: usize) -> Cell
     }
     Cell {
         end: at,
-        number: Number::Nothing,
+        number: None,
     }
 }
 
@@ -101,33 +89,25 @@ pub fn stamp_cell(bytes: &[u8], at: usize) -> Cell
     ensures { result ≡ saying bytes.now at (stamp_in (cell_at bytes.now at)) }
 {
     let cell = number_cell(bytes, at);
-    let number = cell.number;
     let end = cell.end;
-    let Number::Nothing = number else {
-        return cell;
-    };
-    if end <= at {
+    if cell.number.is_some() || end <= at {
         return cell;
     }
     Cell {
-        end: end,
+        end,
         number: clock::read(&bytes[at..end]),
     }
 }
 
-fn kind(byte: u8) -> Number
-    ensures { result ≡ cond (eqb byte 119) (Is 1) (cond (eqb byte 114) (Is 2) (cond (eqb byte 111) (Is 3) Nothing)) }
+fn kind(byte: u8) -> Option<u64>
+    ensures { result ≡ cond (eqb byte 119) (Some 1) (cond (eqb byte 114) (Some 2) (cond (eqb byte 111) (Some 3) None)) }
 {
-    if byte == b'w' {
-        return Number::Is(Op::WRITE);
+    match byte {
+        b'w' => Some(Kind::Write as u64),
+        b'r' => Some(Kind::Read as u64),
+        b'o' => Some(Kind::Opening as u64),
+        _ => None,
     }
-    if byte == b'r' {
-        return Number::Is(Op::READ);
-    }
-    if byte == b'o' {
-        return Number::Is(Op::OPENING);
-    }
-    Number::Nothing
 }
 
 // The kind of the cell that starts at `at`.
@@ -135,41 +115,13 @@ pub fn kind_cell(bytes: &[u8], at: usize) -> Cell
     ensures { result ≡ saying bytes.now at (kind_of (cell_at bytes.now at)) }
 {
     let end = cell_end(bytes, at);
-    if end - at != 1 {
-        return Cell {
-            end: end,
-            number: Number::Nothing,
-        };
-    }
-    Cell {
-        end: end,
-        number: kind(bytes[at]),
-    }
+    let number = if end - at == 1 { kind(bytes[at]) } else { None };
+    Cell { end, number }
 }
 
 // Whether a comma stands at `at`.
 pub fn comma_at(bytes: &[u8], at: usize) -> bool
     ensures { result ≡ comma_at bytes.now at }
 {
-    if at < bytes.len() {
-        return bytes[at] == b',';
-    }
-    false
-}
-
-// Whether two texts are the same.
-pub fn same(text: &[u8], name: &[u8]) -> bool
-    ensures { result ≡ same text.now name.now }
-{
-    if text.len() != name.len() {
-        return false;
-    }
-    let mut i = 0;
-    while i < text.len() {
-        if text[i] != name[i] {
-            return false;
-        }
-        i += 1;
-    }
-    true
+    at < bytes.len() && bytes[at] == b','
 }

@@ -17,7 +17,7 @@ use Rattle.methods.specs.Prepared.{no_write, same_value}
 use Rattle.methods.specs.Place.{later}
 use Rattle.methods.specs.Fzf.{of_first, may_follow}
 use Rattle.positions.specs.Columns.{Cols, size, wr, is_own, Sound, op, ops, Of}
-use Rattle.positions.proofs.Columns.{size_is, own_is, same_is}
+use Rattle.positions.proofs.OfHistory.{size_is, own_is, same_is}
 use Rattle.placing.specs.States.{State, left, Holds, Whose}
 use Rattle.placing.specs.Scanned.{Asks, Broken, a_write, two}
 use Rattle.placing.specs.Stepped.{ending, Told}

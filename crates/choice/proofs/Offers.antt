@@ -1,8 +1,8 @@
 -- The orders that the code tries are those that figure 4 lists, and each has the chunk's writes once.
 -- Assumes nothing.
-use Prim.Native.Nat.{ℕ, zero, suc, ◌+◌, ◌-◌, ◌≤◌, ◌<◌}
+use Prim.Native.Nat.{ℕ, ◌+◌, ◌≤◌, ◌<◌}
 use mathlib.Core.Path.{◌≡◌, refl, ap, sym, ◌∙◌}
-use mathlib.Core.Bool.{Bool, true, false, not, cond}
+use mathlib.Core.Bool.{Bool, true, false, not}
 use mathlib.Core.Logic.{◌⊎◌, inl, inr, ◌≢◌}
 use mathlib.Core.List.Memᴰ
 use mathlib.Core.List.Memᴰ.{head as here}
@@ -10,10 +10,9 @@ use mathlib.Core.List.Memᴰ.{tail as there}
 use mathlib.Core.List.{List, [], ◌∷◌, ◌++◌, map, append-nil, append_assoc, Memᴰ as In}
 use native.Mathlib.Omega.{arith}
 use native.Mathlib.Numerals.{add-one}
-use lib.ListN.{length, get_or, take, set}
-use lib.Seq.{take-suc-set}
-use lib.Dec.{ltb}
-use borrow.Author.Tests.{le-ltb, ltb-false}
+use lib.ListN.{length, take, set}
+use lib.Seq.{take-suc-set, take-append-add, take-append_seam}
+use Rattle.std.specs.Prelude.{Option, Some, None, is_some}
 use Rattle.lists.specs.Pairs.{Pairs, nil, cons}
 use Rattle.lists.proofs.Tests.{both}
 use Rattle.lists.proofs.Pairs.{pairs_one, pairs_append, pairs_front, pairs_behind, pairs_across}
@@ -24,11 +23,10 @@ use Rattle.methods.specs.Fzf.{swap, listed, viable, back, first_viable}
 use Rattle.positions.specs.Places.{Unlike}
 use Rattle.positions.specs.Columns.{Cols, op, ops}
 use Rattle.positions.proofs.Once.{pairs_once}
-use Rattle.placing.specs.declared.Front.{Front}
 use Rattle.placing.specs.States.{State, Whose}
 use Rattle.choice.specs.Gives.{Gives, no_order, an_order}
 use Rattle.choice.specs.Viable.{Turns, viable_by}
-use Rattle.choice.specs.Offered.{backward, swap_if, end_at, one_at, offer, offers, tried_by, chosen_by}
+use Rattle.choice.specs.Offered.{backward, swap_if, end_at, one_of, offer, offers, tried_by, chosen_by}
 use Rattle.choice.proofs.Turning.{ops_back, ops_swap}
 
 -- Lists turned round and swapped.
@@ -80,107 +78,91 @@ back_append (x ∷ a) b = rw (back_append a b) (append_assoc (backward b) (backw
 
 -- The two ends.
 
-pub end_in : (n : ℕ) (first : Bool) → end_at n first ≤ n
-unfolding end_at
-end_in n true = go (ltb n 1) refl
-  where
-    go : (b : Bool) → ltb n 1 ≡ b → cond b 0 1 ≤ n
-    go true e = omega arith
-    go false e = omega (arith, ltb-false n 1 e)
-end_in n false = go (ltb n 2) refl
-  where
-    go : (b : Bool) → ltb n 2 ≡ b → cond b 0 2 ≤ n
-    go true e = omega arith
-    go false e = omega (arith, ltb-false n 2 e)
+one_back : (w : Option ℕ) → backward (one_of w) ≡ one_of w
+unfolding one_of backward
+one_back None = refl
+one_back (Some w) = refl
 
-one_back : (l : List ℕ) (k : ℕ) → backward (one_at l k) ≡ one_at l k
-unfolding one_at backward
-one_back l zero = refl
-one_back l (suc k) = refl
-
-in_one : (l : List ℕ) (k : ℕ) → k ≤ length l → {x : ℕ} → In x (one_at l k) → In x l
-unfolding one_at
-in_one l (suc k) h (here e) = rw e (get_d_in l 0 k (omega arith))
-in_one l zero h x4 = elim x4 [ ]
-in_one l (suc k) h (there x9) = elim x9 [ ]
+in_end : (l : List ℕ) (first : Bool) → {x : ℕ} → In x (one_of (end_at l first)) → In x l
+unfolding one_of end_at
+in_end [] true m = elim m [ ]
+in_end [] false m = elim m [ ]
+in_end (v ∷ l) true (here e) = here e
+in_end (v ∷ l) true (there m) = elim m [ ]
+in_end (v ∷ []) false m = elim m [ ]
+in_end (v ∷ (w ∷ l)) false (here e) = there (here e)
+in_end (v ∷ (w ∷ l)) false (there m) = elim m [ ]
 
 -- one more at the end of what is written, or nothing
-pub put_none : (l : List ℕ) (k : ℕ) (out : List ℕ) (m : ℕ) → k ≡ 0 → (m ≡ m + length (one_at l k)) × (take m out ≡ take m out ++ one_at l k)
-unfolding one_at
-put_none l k out m e = rw e (omega arith, sym (append-nil (take m out)))
+pub put_none : (w : Option ℕ) (out : List ℕ) (m : ℕ) → w ≡ None → (m ≡ m + length (one_of w)) × (take m out ≡ take m out ++ one_of w)
+unfolding one_of
+put_none w out m e = rw e (omega arith, sym (append-nil (take m out)))
 
-pub put_one : (l : List ℕ) (k : ℕ) (out : List ℕ) (m : ℕ) → 0 < k → m + length (one_at l k) ≤ length out →
-    (m < length out) × ((m + 1 ≡ m + length (one_at l k)) × (take (m + 1) (set out m (get_or l (k - 1) 0)) ≡ take m out ++ one_at l k))
-unfolding one_at
-put_one l k out m h r =
-    let e : one_at l k ≡ get_or l (k - 1) 0 ∷ [] = one in
-    let q : m < length out = omega (arith, r, ap length e) in
-    (q, (omega (arith, ap length e), rw (e, add-one m, take-suc-set out m (get_or l (k - 1) 0) q)))
-  where
-    at : (k : ℕ) → 0 < k → one_at l k ≡ get_or l (k - 1) 0 ∷ []
-    at zero h = absurd (omega arith)
-    at (suc k) h = let d : suc k - 1 ≡ k = omega arith in rw d
+pub put_one : (w : Option ℕ) (x : ℕ) (out : List ℕ) (m : ℕ) → w ≡ Some x → m + length (one_of w) ≤ length out →
+    (m < length out) × ((m + 1 ≡ m + length (one_of w)) × (take (m + 1) (set out m x) ≡ take m out ++ one_of w))
+unfolding one_of
+put_one w x out m e r =
+    let n : m + length (one_of (Some x)) ≤ length out = rw e at r in
+    let q : m < length out = omega arith in
+    rw e (q, (omega arith, rw (add-one m) (take-suc-set out m x q)))
 
-    one : one_at l k ≡ get_or l (k - 1) 0 ∷ []
-    one = at k h
-
--- two or more have a first and a second
-many : (x y : ℕ) (l : List ℕ) → (ltb (length (x ∷ (y ∷ l))) 1 ≡ false) × (ltb (length (x ∷ (y ∷ l))) 2 ≡ false)
-many x y l = (le-ltb (length (x ∷ (y ∷ l))) 1 (omega arith), le-ltb (length (x ∷ (y ∷ l))) 2 (omega arith))
+-- the first of them of what was written over with l from m on
+pub write_over : (a l rest : List ℕ) (m n : ℕ) → length a ≡ m → n ≡ length l → take (m + n) (a ++ (l ++ rest)) ≡ a ++ l
+write_over a l rest m n e h = rw (← e, h) (take-append-add a (l ++ rest) (length l) ∙ ap (λ (x : List ℕ). a ++ x) (take-append_seam l rest))
 
 -- the two ends are two
-ends_apart : {b : List ℕ} → Pairs Unlike b → {x y : ℕ} → In x (one_at b (end_at (length b) true)) → In y (one_at b (end_at (length b) false)) → x ≢ y
-unfolding one_at end_at
+ends_apart : {b : List ℕ} → Pairs Unlike b → {x y : ℕ} → In x (one_of (end_at b true)) → In y (one_of (end_at b false)) → x ≢ y
+unfolding one_of end_at
 ends_apart nil m n q = elim m [ ]
 ends_apart (cons {x = v} u nil) m n q = elim n [ ]
-ends_apart (cons {x = v} u (cons {x = w} {l = l} t k)) {x} {y} m n q = go (rw (many v w l).0 at m) (rw (many v w l).1 at n)
+ends_apart (cons {x = v} u (cons {x = w} {l = l} t k)) {x} {y} m n q = go m n
   where
     go : In x (v ∷ []) → In y (w ∷ []) → ⊥
     go (here e) (here f) = u w (here refl) (sym e ∙ q ∙ f)
     go (here e) (there x21) = elim x21 [ ]
     go (there x20) _ = elim x20 [ ]
 
-ends_length : (b : List ℕ) → length (one_at b (end_at (length b) true)) + length (one_at b (end_at (length b) false)) ≤ length b
-unfolding one_at end_at
+ends_length : (b : List ℕ) → length (one_of (end_at b true)) + length (one_of (end_at b false)) ≤ length b
+unfolding one_of end_at
 ends_length [] = omega arith
 ends_length (v ∷ []) = omega arith
-ends_length (v ∷ (w ∷ l)) = rw ((many v w l).0, (many v w l).1) (omega arith)
+ends_length (v ∷ (w ∷ l)) = omega arith
 
 -- in front and behind, flipped or not
-pub sides_length : (b : List ℕ) (flip : Bool) → length (one_at b (end_at (length b) flip)) + length (one_at b (end_at (length b) (not flip))) ≤ length b
+pub sides_length : (b : List ℕ) (flip : Bool) → length (one_of (end_at b flip)) + length (one_of (end_at b (not flip))) ≤ length b
 sides_length b true = ends_length b
 sides_length b false = omega (arith, ends_length b)
 
-sides_apart : {b : List ℕ} → Pairs Unlike b → (flip : Bool) {x y : ℕ} → In x (one_at b (end_at (length b) (not flip))) → In y (one_at b (end_at (length b) flip)) → x ≢ y
+sides_apart : {b : List ℕ} → Pairs Unlike b → (flip : Bool) {x y : ℕ} → In x (one_of (end_at b (not flip))) → In y (one_of (end_at b flip)) → x ≢ y
 sides_apart p true m n q = ends_apart p n m (sym q)
 sides_apart p false m n q = ends_apart p m n q
 
 -- An order, as it is laid out: last first.
 
 pub laid_out : (t b : List ℕ) (flip swap : Bool) →
-    (one_at b (end_at (length b) flip) ++ backward (swap_if swap t)) ++ one_at b (end_at (length b) (not flip)) ≡ backward (offer t b flip swap)
+    (one_of (end_at b flip) ++ backward (swap_if swap t)) ++ one_of (end_at b (not flip)) ≡ backward (offer t b flip swap)
 unfolding offer
 laid_out t b flip swap =
-    let F = one_at b (end_at (length b) (not flip)) in
-    let B = one_at b (end_at (length b) flip) in
+    let F = one_of (end_at b (not flip)) in
+    let B = one_of (end_at b flip) in
     sym
     (back_append F (swap_if swap t ++ B)
     ∙ ap (λ (l : List ℕ). l ++ backward F) (back_append (swap_if swap t) B)
-    ∙ ap (λ (l : List ℕ). (l ++ backward (swap_if swap t)) ++ backward F) (one_back b (end_at (length b) flip))
-    ∙ ap (λ (l : List ℕ). (B ++ backward (swap_if swap t)) ++ l) (one_back b (end_at (length b) (not flip))))
+    ∙ ap (λ (l : List ℕ). (l ++ backward (swap_if swap t)) ++ backward F) (one_back (end_at b flip))
+    ∙ ap (λ (l : List ℕ). (B ++ backward (swap_if swap t)) ++ l) (one_back (end_at b (not flip))))
 
 module _ (writer t b : List ℕ) (s : State) (k : (x : ℕ) → In x (t ++ b) → Whose writer s x) (a : Pairs Unlike (t ++ b)) (flip swap : Bool) where
   abbrev F : List ℕ
-  F = one_at b (end_at (length b) (not flip))
+  F = one_of (end_at b (not flip))
 
   abbrev B : List ℕ
-  B = one_at b (end_at (length b) flip)
+  B = one_of (end_at b flip)
 
   F-in : {x : ℕ} → In x F → In x b
-  F-in m = in_one b (end_at (length b) (not flip)) (end_in (length b) (not flip)) m
+  F-in m = in_end b (not flip) m
 
   B-in : {x : ℕ} → In x B → In x b
-  B-in m = in_one b (end_at (length b) flip) (end_in (length b) flip) m
+  B-in m = in_end b flip m
 
   offer_whose : (x : ℕ) → In x (offer t b flip swap) → Whose writer s x
   unfolding offer
@@ -194,16 +176,16 @@ module _ (writer t b : List ℕ) (s : State) (k : (x : ℕ) → In x (t ++ b) �
       go (inl i) = k x (Memᴰ.append_right t (F-in i))
       go (inr i) = inside (Memᴰ.append_cases (swap_if swap t) i)
 
-  one_apart : (k : ℕ) → Pairs Unlike (one_at b k)
-  unfolding one_at
-  one_apart zero = nil
-  one_apart (suc k) = pairs_one (get_or b k 0)
+  one_apart : (w : Option ℕ) → Pairs Unlike (one_of w)
+  unfolding one_of
+  one_apart None = nil
+  one_apart (Some w) = pairs_one w
 
   offer_apart : Pairs Unlike (offer t b flip swap)
   unfolding offer
   offer_apart =
-      pairs_append (one_apart (end_at (length b) (not flip)))
-      (pairs_append (swap_apart swap (pairs_front t b a)) (one_apart (end_at (length b) flip)) (λ x y m n. across x y (in_swap swap t m) (B-in n)))
+      pairs_append (one_apart (end_at b (not flip)))
+      (pairs_append (swap_apart swap (pairs_front t b a)) (one_apart (end_at b flip)) (λ x y m n. across x y (in_swap swap t m) (B-in n)))
       (λ x y m n. rest x y m (Memᴰ.append_cases (swap_if swap t) n))
     where
       across : (x y : ℕ) → In x t → In y b → x ≢ y
@@ -224,7 +206,7 @@ module _ (writer t b : List ℕ) (s : State) (k : (x : ℕ) → In x (t ++ b) �
 -- The code's orders are figure 4's.
 
 pub listed_is : (H : List Op) (t b : List ℕ) → length b ≤ 2 → map (ops H) (offers t b false ++ offers t b true) ≡ listed (ops H t) (ops H b)
-unfolding offers offer one_at end_at listed swap_if
+unfolding offers offer one_of end_at listed swap_if
 listed_is H t [] h =
     let a : ops H (swap_if false t ++ []) ≡ ops H t = ap (ops H) (append-nil (swap_if false t)) in
     let b : ops H (swap_if true t ++ []) ≡ swap (ops H t) = ap (ops H) (append-nil (swap_if true t)) ∙ ops_swap H t in
@@ -268,12 +250,12 @@ first_then xs ys H K d e =
 
 module _ (C : Cols) (K L cells : List ℕ) where
   -- one order
-  pub try_one : (T : List ℕ) (r : Front) → Gives C (viable_by (backward T) K) L cells r → Gives C (tried_by (T ∷ []) K) L cells r
+  pub try_one : (T : List ℕ) {r : Option ℕ} → Gives C (viable_by (backward T) K) L cells r → Gives C (tried_by (T ∷ []) K) L cells r
   unfolding first_viable
-  try_one T r (no_order e n) =
-      no_order e (λ H f. let q : viable (back (ops H T)) (ops H K) ≡ none = ap (λ (l : List Op). viable l (ops H K)) (sym (ops_back H T)) ∙ n H f in rw (q, first_viable))
-  try_one T r (an_order e g) =
-      an_order e
+  try_one T (no_order n) =
+      no_order (λ H f. let q : viable (back (ops H T)) (ops H K) ≡ none = ap (λ (l : List Op). viable l (ops H K)) (sym (ops_back H T)) ∙ n H f in rw (q, first_viable))
+  try_one T (an_order g) =
+      an_order
       (record {
         high = g.high;
         placed = g.placed;
@@ -284,11 +266,11 @@ module _ (C : Cols) (K L cells : List ℕ) where
       })
 
   module _ (xs ys : List (List ℕ)) where
-    try_hit : (r : Front) → Gives C (tried_by xs K) L cells r → r.failed ≡ false → Gives C (tried_by (xs ++ ys) K) L cells r
+    try_hit : {r : Option ℕ} → Gives C (tried_by xs K) L cells r → is_some r ≡ true → Gives C (tried_by (xs ++ ys) K) L cells r
     unfolding or_else
-    try_hit r (no_order e n) q = absurd (both e q)
-    try_hit r (an_order e g) q =
-        an_order e
+    try_hit (no_order n) q = absurd (both q refl)
+    try_hit (an_order g) q =
+        an_order
         (record {
           high = g.high;
           placed = g.placed;
@@ -296,13 +278,13 @@ module _ (C : Cols) (K L cells : List ℕ) where
           whole = λ H f. first_then xs ys H (ops H K) _ (g.whole H f);
         })
 
-    try_miss : (old : List ℕ) (a r : Front) → Gives C (tried_by xs K) L old a → a.failed ≡ true → Gives C (tried_by ys K) L cells r → Gives C (tried_by (xs ++ ys) K) L cells r
+    try_miss : {old : List ℕ} {a r : Option ℕ} → Gives C (tried_by xs K) L old a → is_some a ≡ false → Gives C (tried_by ys K) L cells r → Gives C (tried_by (xs ++ ys) K) L cells r
     unfolding or_else
-    try_miss old a r (an_order e g) q t = absurd (both q e)
-    try_miss old a r (no_order e n) q (no_order d m) =
-        no_order d (λ H f. first_then xs ys H (ops H K) none (n H f) ∙ m H f)
-    try_miss old a r (no_order e n) q (an_order d g) =
-        an_order d
+    try_miss (an_order g) q t = absurd (both refl q)
+    try_miss (no_order n) q (no_order m) =
+        no_order (λ H f. first_then xs ys H (ops H K) none (n H f) ∙ m H f)
+    try_miss (no_order n) q (an_order g) =
+        an_order
         (record {
           high = g.high;
           placed = g.placed;
@@ -312,14 +294,6 @@ module _ (C : Cols) (K L cells : List ℕ) where
 
   -- unflipped, and flipped where there is something to flip
   module _ (t b : List ℕ) (swap : Bool) where
-    pub try_none : length b ≡ 0 → (r : Front) → Gives C (tried_by (offer t b false swap ∷ []) K) L cells r → Gives C (tried_by (offers t b swap) K) L cells r
-    unfolding offers
-    try_none e r k = go b e k
-      where
-        go : (b : List ℕ) → length b ≡ 0 → Gives C (tried_by (offer t b false swap ∷ []) K) L cells r → Gives C (tried_by (offers t b swap) K) L cells r
-        go [] e k = k
-        go (w ∷ l) e k = absurd (omega arith)
-
     two_offers : 0 < length b → (offer t b false swap ∷ []) ++ (offer t b true swap ∷ []) ≡ offers t b swap
     unfolding offers
     two_offers h = go b h
@@ -328,19 +302,25 @@ module _ (C : Cols) (K L cells : List ℕ) where
         go [] h = absurd (omega arith)
         go (w ∷ l) h = refl
 
-    pub try_first : 0 < length b → (r : Front) → Gives C (tried_by (offer t b false swap ∷ []) K) L cells r → r.failed ≡ false → Gives C (tried_by (offers t b swap) K) L cells r
-    try_first h r k e = rw (← two_offers h) (try_hit (offer t b false swap ∷ []) (offer t b true swap ∷ []) r k e)
+    pub try_first : {r : Option ℕ} → Gives C (tried_by (offer t b false swap ∷ []) K) L cells r → (is_some r ≡ true) ⊎ (length b ≡ 0) → Gives C (tried_by (offers t b swap) K) L cells r
+    unfolding offers
+    try_first {r} k e = go b k e
+      where
+        go : (b : List ℕ) → Gives C (tried_by (offer t b false swap ∷ []) K) L cells r → (is_some r ≡ true) ⊎ (length b ≡ 0) → Gives C (tried_by (offers t b swap) K) L cells r
+        go [] k e = k
+        go (w ∷ l) k (inl e) = try_hit (offer t (w ∷ l) false swap ∷ []) (offer t (w ∷ l) true swap ∷ []) k e
+        go (w ∷ l) k (inr e) = absurd (omega arith)
 
-    pub try_second : 0 < length b → (old : List ℕ) (a r : Front) → Gives C (tried_by (offer t b false swap ∷ []) K) L old a → a.failed ≡ true → Gives C (tried_by (offer t b true swap ∷ []) K) L cells r →
+    pub try_second : {old : List ℕ} {a r : Option ℕ} → Gives C (tried_by (offer t b false swap ∷ []) K) L old a → is_some a ≡ false → 0 < length b → Gives C (tried_by (offer t b true swap ∷ []) K) L cells r →
         Gives C (tried_by (offers t b swap) K) L cells r
-    try_second h old a r k e m = rw (← two_offers h) (try_miss (offer t b false swap ∷ []) (offer t b true swap ∷ []) old a r k e m)
+    try_second k e h m = rw (← two_offers h) (try_miss (offer t b false swap ∷ []) (offer t b true swap ∷ []) k e m)
 
   -- all of figure 4's
-  chosen_all : (t b : List ℕ) → length b ≤ 2 → (r : Front) → Gives C (tried_by (offers t b false ++ offers t b true) K) L cells r → Gives C (chosen_by t b K) L cells r
-  chosen_all t b h r (no_order e n) =
-      no_order e (λ H f. ap (λ (l : List (List Op)). first_viable l (ops H K)) (sym (listed_is H t b h)) ∙ n H f)
-  chosen_all t b h r (an_order e g) =
-      an_order e
+  chosen_all : (t b : List ℕ) → length b ≤ 2 → {r : Option ℕ} → Gives C (tried_by (offers t b false ++ offers t b true) K) L cells r → Gives C (chosen_by t b K) L cells r
+  chosen_all t b h (no_order n) =
+      no_order (λ H f. ap (λ (l : List (List Op)). first_viable l (ops H K)) (sym (listed_is H t b h)) ∙ n H f)
+  chosen_all t b h (an_order g) =
+      an_order
       (record {
         high = g.high;
         placed = g.placed;
@@ -348,17 +328,17 @@ module _ (C : Cols) (K L cells : List ℕ) where
         whole = λ H f. ap (λ (l : List (List Op)). first_viable l (ops H K)) (sym (listed_is H t b h)) ∙ g.whole H f;
       })
 
-  pub chosen_first : (t b : List ℕ) → length b ≤ 2 → (r : Front) → Gives C (tried_by (offers t b false) K) L cells r → r.failed ≡ false → Gives C (chosen_by t b K) L cells r
-  chosen_first t b h r k e = chosen_all t b h r (try_hit (offers t b false) (offers t b true) r k e)
+  pub chosen_first : (t b : List ℕ) → length b ≤ 2 → {r : Option ℕ} → Gives C (tried_by (offers t b false) K) L cells r → is_some r ≡ true → Gives C (chosen_by t b K) L cells r
+  chosen_first t b h k e = chosen_all t b h (try_hit (offers t b false) (offers t b true) k e)
 
-  pub chosen_second : (t b : List ℕ) → length b ≤ 2 → (old : List ℕ) (a r : Front) → Gives C (tried_by (offers t b false) K) L old a → a.failed ≡ true →
+  pub chosen_second : (t b : List ℕ) → length b ≤ 2 → {old : List ℕ} {a r : Option ℕ} → Gives C (tried_by (offers t b false) K) L old a → is_some a ≡ false →
       Gives C (tried_by (offers t b true) K) L cells r → Gives C (chosen_by t b K) L cells r
-  chosen_second t b h old a r k e m = chosen_all t b h r (try_miss (offers t b false) (offers t b true) old a r k e m)
+  chosen_second t b h k e m = chosen_all t b h (try_miss (offers t b false) (offers t b true) k e m)
 
   -- three backward clusters or more: none is listed
-  pub chosen_none : (t b : List ℕ) → 2 < length b → (r : Front) → r.failed ≡ true → Gives C (chosen_by t b K) L cells r
+  pub chosen_none : (t b : List ℕ) → 2 < length b → Gives C (chosen_by t b K) L cells None
   unfolding listed first_viable
-  chosen_none t b h r e = no_order e (λ H f. ap (λ (l : List (List Op)). first_viable l (ops H K)) (none_listed H b h))
+  chosen_none t b h = no_order (λ H f. ap (λ (l : List (List Op)). first_viable l (ops H K)) (none_listed H b h))
     where
       none_listed : (H : List Op) (b : List ℕ) → 2 < length b → listed (ops H t) (ops H b) ≡ []
       none_listed H [] k = absurd (omega arith)
@@ -366,24 +346,15 @@ module _ (C : Cols) (K L cells : List ℕ) where
       none_listed H (v ∷ (w ∷ [])) k = absurd (omega arith)
       none_listed H (v ∷ (w ∷ (x ∷ b))) k = refl
 
--- What the laying out of an order requires and leaves; k and f are the places of the two ends.
-module _ (t b : List ℕ) (flip swap : Bool) (k f : ℕ) (e : k ≡ end_at (length b) flip) (d : f ≡ end_at (length b) (not flip)) where
-  pub behind_fits : (n : ℕ) → length t + length b ≤ n → (k ≤ length b) × (0 + length (one_at b k) ≤ n)
-  behind_fits n h = rw e (end_in (length b) flip, omega (arith, sides_length b flip))
+-- What the laying out of an order requires and leaves; k and f are the two ends.
+module _ (t b : List ℕ) (flip swap : Bool) (k f : Option ℕ) (e : k ≡ end_at b flip) (d : f ≡ end_at b (not flip)) where
+  pub ends_fit : (n : ℕ) → length t + length b ≤ n → length (one_of k) + length t + length (one_of f) ≤ n
+  ends_fit n h = omega (arith, ap (λ (w : Option ℕ). length (one_of w)) e, ap (λ (w : Option ℕ). length (one_of w)) d, sides_length b flip)
 
-  pub middle_fits : (n m : ℕ) → length t + length b ≤ n → m ≡ 0 + length (one_at b k) → m + length t ≤ n
-  middle_fits n m h q = omega (arith, ap (λ (x : ℕ). length (one_at b x)) e, sides_length b flip)
-
-  pub front_fits : (n m i : ℕ) → length t + length b ≤ n → m ≡ 0 + length (one_at b k) → i ≡ m + length t → (f ≤ length b) × (i + length (one_at b f) ≤ n)
-  front_fits n m i h q r = (
-    rw d (end_in (length b) (not flip)),
-    omega (arith, ap (λ (x : ℕ). length (one_at b x)) e, ap (λ (x : ℕ). length (one_at b x)) d, sides_length b flip),
-  )
-
-  pub all_laid : (o₀ o₁ o₂ o₃ : List ℕ) (m i r : ℕ) → take m o₁ ≡ take 0 o₀ ++ one_at b k → take i o₂ ≡ take m o₁ ++ backward (swap_if swap t) →
-      take r o₃ ≡ take i o₂ ++ one_at b f → take r o₃ ≡ backward (offer t b flip swap)
+  pub all_laid : (o₀ o₁ o₂ o₃ : List ℕ) (m i r : ℕ) → take m o₁ ≡ take 0 o₀ ++ one_of k → take i o₂ ≡ take m o₁ ++ backward (swap_if swap t) →
+      take r o₃ ≡ take i o₂ ++ one_of f → take r o₃ ≡ backward (offer t b flip swap)
   all_laid o₀ o₁ o₂ o₃ m i r p q s =
       s
-      ∙ ap (λ (l : List ℕ). l ++ one_at b f) (q ∙ ap (λ (l : List ℕ). l ++ backward (swap_if swap t)) (p ∙ ap (one_at b) e))
-      ∙ ap (λ (x : ℕ). (one_at b (end_at (length b) flip) ++ backward (swap_if swap t)) ++ one_at b x) d
+      ∙ ap (λ (l : List ℕ). l ++ one_of f) (q ∙ ap (λ (l : List ℕ). l ++ backward (swap_if swap t)) (p ∙ ap one_of e))
+      ∙ ap (λ (w : Option ℕ). (one_of (end_at b flip) ++ backward (swap_if swap t)) ++ one_of w) d
       ∙ laid_out t b flip swap

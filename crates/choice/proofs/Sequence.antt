@@ -5,6 +5,7 @@ use mathlib.Core.Path.{◌≡◌, refl, ap, sym, ◌∙◌}
 use mathlib.Core.Bool.{Bool, true, false, cond}
 use mathlib.Core.Logic.{◌⊎◌, inl, inr}
 use mathlib.Core.List.{List, [], ◌∷◌, ◌++◌, append_assoc, append-nil}
+use Rattle.std.specs.Prelude.{Some, None}
 use native.Mathlib.Omega.{arith}
 use native.Mathlib.Numerals.{add-one}
 use lib.ListN.{length, get_or, drop, drop_of_length-le}
@@ -20,7 +21,6 @@ use Rattle.methods.specs.Zones.{Decision, none, order}
 use Rattle.methods.specs.Fzf.{may_follow, put_behind, viable}
 use Rattle.positions.specs.Columns.{Cols, size, wr, Sound, op, ops, Says}
 use Rattle.positions.proofs.Places.{below}
-use Rattle.placing.specs.declared.Front.{Front}
 use Rattle.placing.specs.States.{State, Tried, left, laid, Holds, Whose, Shrinks}
 use Rattle.placing.specs.Added.{Added}
 use Rattle.placing.specs.Stepped.{Stepped, fails, goes}
@@ -45,7 +45,7 @@ viable_one : (w : Op) (l K : List Op) (b : Bool) → all (may_follow w l) (later
 unfolding viable
 viable_one w l K b e = rw (e, viable)
 
-plus_eq : (y x : ℕ) → eqb (y + 1) (x + 1) ≡ eqb y x
+pub plus_eq : (y x : ℕ) → eqb (y + 1) (x + 1) ≡ eqb y x
 plus_eq y x = go (test (eqb y x))
   where
     go : (eqb y x ≡ true) ⊎ (eqb y x ≡ false) → eqb (y + 1) (x + 1) ≡ eqb y x
@@ -76,14 +76,14 @@ module _ (C : Cols) (p : Sound C) (T : List ℕ) (s : State) where
   unfolding added_none
   place_none h k = record { added = added_none s; within = omega arith; holds = h; whose = λ j a b. k.whose j b; whole = λ H f. sym (behind_nil _) }
 
-  pub place_end : (i : ℕ) (t : State) → Placing C T s i t → length T ≤ i → (r : Front) → r.failed ≡ false → r.at ≡ t.at → Gives C (viable_by T (left s)) (laid s) t.order r
+  pub place_end : (i : ℕ) (t : State) → Placing C T s i t → length T ≤ i → Gives C (viable_by T (left s)) (laid s) t.order (Some t.at)
   unfolding viable put_behind
-  place_end i t g l r e q =
-      an_order e
+  place_end i t g l =
+      an_order
       (record {
         high = omega (arith, g.holds.ready.high);
         placed = g.added.ops;
-        lays = rw q g.added.lays;
+        lays = g.added.lays;
         whole = λ H f. g.whole H f ∙ ap (λ (k : List ℕ). put_behind (viable (ops H k) (ops H (left t))) (ops H g.added.ops)) (drop_of_length-le T l);
       })
 
@@ -121,16 +121,16 @@ module _ (C : Cols) (p : Sound C) (T : List ℕ) (s : State) where
     place_shrinks r (fails e a b) = added_shrinks (added_twice g.added a) (size C)
     place_shrinks r (goes e x) = added_shrinks (added_twice g.added x.added) (size C)
 
-    pub place_fails : (r : Tried) → Stepped C w t r → r.failed ≡ true → (cells : List ℕ) (x : Front) → x.failed ≡ true → Gives C (viable_by T (left s)) (laid s) cells x
+    pub place_fails : (r : Tried) → Stepped C w t r → r.failed ≡ true → (cells : List ℕ) → Gives C (viable_by T (left s)) (laid s) cells None
     unfolding put_behind
-    place_fails r (fails e a b) q cells x z = no_order z (λ H f. one false H f (broken_not C p t g.holds w place_whose L head H f b))
-    place_fails r (goes e y) q cells x z = absurd (both q e)
+    place_fails r (fails e a b) q cells = no_order (λ H f. one false H f (broken_not C p t g.holds w place_whose L head H f b))
+    place_fails r (goes e y) q cells = absurd (both q e)
 
-    pub place_clash : (r : Tried) → Stepped C w t r → r.failed ≡ false → follows T (i + 1) r.asked ≡ false → (cells : List ℕ) (y : Front) → y.failed ≡ true → Gives C (viable_by T (left s)) (laid s) cells y
+    pub place_clash : (r : Tried) → Stepped C w t r → r.failed ≡ false → follows T (i + 1) r.asked ≡ false → (cells : List ℕ) → Gives C (viable_by T (left s)) (laid s) cells None
     unfolding put_behind
-    place_clash r (fails e a b) q z cells y d = absurd (both e q)
-    place_clash r (goes e x) q z cells y d =
-        no_order d (λ H f. one false H f (one_not C p t g.holds w place_whose L head H f r.asked x.told (sym (follows_is T (i + 1) r.asked) ∙ z)))
+    place_clash r (fails e a b) q z cells = absurd (both e q)
+    place_clash r (goes e x) q z cells =
+        no_order (λ H f. one false H f (one_not C p t g.holds w place_whose L head H f r.asked x.told (sym (follows_is T (i + 1) r.asked) ∙ z)))
 
     pub place_on : Turns C.writer T s → (r : Tried) → Stepped C w t r → r.failed ≡ false → follows T (i + 1) r.asked ≡ true → Placing C T s (i + 1) r.state
     unfolding added_twice

@@ -1,7 +1,7 @@
 -- The orders that figure 4 lists for a chunk, by position (document 01, "FZF"): t are the writes of its forward clusters and b those of its
 -- backward ones, both by low end.
 -- Assumes nothing.
-use Rattle.std.specs.Prelude.{ℕ, suc, zero, ◌+◌, ◌≤◌, Bool, true, false, not, cond, List, [], ◌∷◌, ◌++◌, map, length, get_or, eqb, ltb}
+use Rattle.std.specs.Prelude.{ℕ, ◌+◌, ◌≤◌, Bool, true, false, not, List, [], ◌∷◌, ◌++◌, map, length, slice_get, Option, Some, None}
 use Rattle.history.specs.Table.{largest_count}
 use Rattle.lists.specs.Pairs.{Pairs}
 use Rattle.history.specs.declared.Op.{Op}
@@ -24,23 +24,19 @@ swap_if true [] = []
 swap_if true (x ∷ []) = x ∷ []
 swap_if true (x ∷ (y ∷ l)) = y ∷ (x ∷ l)
 
--- the place in a list of n from which the swapped list has its j-th
-unfoldable pub turned : ℕ → Bool → ℕ → ℕ
-turned n b j = cond b (cond (ltb n 2) j (cond (eqb j 0) 1 (cond (eqb j 1) 0 j))) j
+-- the first of a list, or the second, if there is one
+unfoldable pub end_at : List ℕ → Bool → Option ℕ
+end_at l true = slice_get l 0
+end_at l false = slice_get l 1
 
--- one more than the place of the first of n, or of the second; 0 where there is none
-unfoldable pub end_at : ℕ → Bool → ℕ
-end_at n true = cond (ltb n 1) 0 1
-end_at n false = cond (ltb n 2) 0 2
-
--- the one at k - 1; none where k is 0
-unfoldable pub one_at : List ℕ → ℕ → List ℕ
-one_at l zero = []
-one_at l (suc k) = get_or l k 0 ∷ []
+-- the list of a write, if there is one
+unfoldable pub one_of : Option ℕ → List ℕ
+one_of None = []
+one_of (Some w) = w ∷ []
 
 -- an order of figure 4: one backward write in front and one behind, flipped or not, and the forward ones swapped or not
 unfoldable pub offer : List ℕ → List ℕ → Bool → Bool → List ℕ
-offer t b flip swap = one_at b (end_at (length b) (not flip)) ++ (swap_if swap t ++ one_at b (end_at (length b) flip))
+offer t b flip swap = one_of (end_at b (not flip)) ++ (swap_if swap t ++ one_of (end_at b flip))
 
 -- the orders with the forward writes swapped, or not: with no backward write there is nothing to flip
 unfoldable pub offers : List ℕ → List ℕ → Bool → List (List ℕ)
@@ -48,7 +44,7 @@ offers t [] swap = offer t [] false swap ∷ []
 offers t (w ∷ b) swap = offer t (w ∷ b) false swap ∷ (offer t (w ∷ b) true swap ∷ [])
 
 -- what the caller shows of a chunk: its writes, each once, and lent places for all
-pub record Chunk (C : Cols) (t b turn placed cells : List ℕ) : Type 0 where
+pub record Shown (C : Cols) (t b turn placed cells : List ℕ) : Type 0 where
   pub small : size C ≤ largest_count
   pub writes : Writes C.writer (t ++ b)
   pub apart : Pairs Unlike (t ++ b)
@@ -58,7 +54,7 @@ pub record Chunk (C : Cols) (t b turn placed cells : List ℕ) : Type 0 where
 
 -- and that nothing else is to be placed, and nothing of it from top on
 pub record Offered (C : Cols) (t b turn placed cells : List ℕ) (top : ℕ) : Type 0 where
-  pub chunk : Chunk C t b turn placed cells
+  pub chunk : Shown C t b turn placed cells
   pub within : Within C.writer (t ++ b) placed
   pub low : top ≤ length C.writer
   pub topped : Topped C.writer (t ++ b) top

@@ -7,11 +7,10 @@ use mathlib.Core.List.{List, ◌∷◌, ◌++◌, append-nil}
 use native.Mathlib.Omega.{arith}
 use lib.ListN.{length, get_or, drop, drop_of_length-le}
 use lib.Dec.{eqb}
-use borrow.Author.Tests.{eq-eqb}
 use Rattle.positions.specs.Places.{upto}
 use Rattle.positions.specs.Columns.{mine, read_of}
 use Rattle.positions.proofs.Places.{upto_ext, upto_length, no_cond}
-use Rattle.placing.specs.States.{is_free, state_of, Ready, Whose}
+use Rattle.placing.specs.States.{is_free, state_of, Ready}
 use Rattle.placing.specs.Owned.{Mine, Owned}
 use Rattle.zones.specs.Zones.{cluster_at}
 use Rattle.freeing.specs.Marks.{Dyed}
@@ -35,9 +34,6 @@ module _ (writer : List ℕ) (w : ℕ) (old placed cells : List ℕ) (n : length
         room = omega (arith, upto_length (is_free placed) (length writer));
         above = λ j a b. absurd (omega arith);
       }
-
-  pub alone_whose : Whose writer (state_of placed cells (length cells) (length writer)) w
-  alone_whose = record { inside = l; write = e; free = own_free w l (rw e (eq-eqb w w refl)) }
 
   module _ (placed' cells' : List ℕ) (r : ℕ) (o : Owned writer w (state_of placed cells (length cells) (length writer)) (state_of placed' cells' r (length writer))) where
     pub alone_laid : (drop r cells' ≡ cluster_at writer w) × (r ≤ length cells')

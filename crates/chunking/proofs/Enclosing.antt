@@ -22,7 +22,7 @@ use Rattle.methods.specs.Zones.{low, high}
 use Rattle.positions.specs.Places.{and}
 use Rattle.positions.proofs.Places.{below, no_cond}
 use Rattle.placing.specs.States.{is_free}
-use Rattle.zones.specs.Zones.{zone_by, Inside}
+use Rattle.zones.specs.Zones.{zone_by}
 use Rattle.freeing.specs.Marks.{unlisted}
 use Rattle.freeing.proofs.Listing.{listed, in_listed}
 use Rattle.chunking.specs.Chunks.{lies, more, top_of, Spans, dangles_by}
@@ -69,31 +69,6 @@ module _ (finish late list : List ℕ) (a : ℕ) (r : Span) (s : Spans finish la
 
   pub span_over : low first ≤ r.top
   span_over = omega (arith, s.top, top_over (zone_by finish late) (high first) (drop (a + 1) list))
-
--- The loop that looks for the end of those below a top.
-
-pub record Reaching (finish late list : List ℕ) (i top k : ℕ) : Type 0 where
-  pub from : i ≤ k
-  pub to : k ≤ length list
-  pub lower : (j : ℕ) → i ≤ j → j < k → low (zone_by finish late (get_or list j 0)) < top
-
-module _ (finish late list : List ℕ) (i top : ℕ) where
-  pub reach_none : i ≤ length list → Reaching finish late list i top i
-  reach_none h = record { from = omega arith; to = h; lower = λ j a b. absurd (omega arith) }
-
-  module _ (k : ℕ) (g : Reaching finish late list i top k) where
-    pub reach_on : k < length list → low (zone_by finish late (get_or list k 0)) < top → Reaching finish late list i top (k + 1)
-    reach_on h l = record { from = omega (arith, g.from); to = omega arith; lower = λ j a b. go j a (below j k) b }
-      where
-        go : (j : ℕ) → i ≤ j → (j < k) ⊎ (k ≤ j) → j < k + 1 → low (zone_by finish late (get_or list j 0)) < top
-        go j a (inl c) b = g.lower j a c
-        go j a (inr c) b = let q : j ≡ k = omega arith in rw q l
-
-    pub reach_stop : top ≤ low (zone_by finish late (get_or list k 0)) → Reaches finish late list i top k
-    reach_stop l = record { from = g.from; to = g.to; lower = g.lower; stop = λ h. l }
-
-    pub reach_end : length list ≤ k → Reaches finish late list i top k
-    reach_end h = record { from = g.from; to = g.to; lower = g.lower; stop = λ l. absurd (omega arith) }
 
 -- What lies inside stands between the two places.
 
@@ -150,15 +125,6 @@ module _ (finish late list : List ℕ) (i bottom top : ℕ) where
         go : (limit : ℕ) → bottom ≤ limit → top ≤ limit → (j : ℕ) → j < e → (j < i) ⊎ (i ≤ j) → low (zone_by finish late (get_or list j 0)) ≤ limit
         go limit a b j l (inl c) = omega (arith, g.lows j c)
         go limit a b j l (inr c) = omega (arith, k.lower j c l)
-
--- a part of a list of places has places
-pub part_inside : (finish list : List ℕ) → Inside finish list → (i e : ℕ) → i ≤ e → e ≤ length list → Inside finish (take (e - i) (drop i list))
-part_inside finish list h i e a b j l =
-    let n : length (take (e - i) (drop i list)) ≡ e - i = length-take-le (e - i) (drop i list) (rw (length-drop) (omega arith)) in
-    rw (get_or-take (e - i) (drop i list) j 0 (omega (arith, l, n)) ∙ get_or-drop i list j 0) (h (i + j) (omega (arith, l, n)))
-
-pub part_short : (list : List ℕ) (i e : ℕ) → i ≤ e → e ≤ length list → length (take (e - i) (drop i list)) ≤ length list
-part_short list i e a b = omega (arith, length-take-le (e - i) (drop i list) (rw (length-drop) (omega arith)))
 
 -- places of a list, by member
 pub small_in : (B : List ℕ) (n : ℕ) → ((i : ℕ) → i < length B → get_or B i 0 < n) → (w : ℕ) → In w B → w < n

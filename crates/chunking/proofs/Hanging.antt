@@ -86,19 +86,12 @@ pub record Skipping (finish late forwards backwards : List ℕ) (j i : ℕ) : Ty
   pub to : i ≤ length backwards
   pub same : keep (dangles_by finish late forwards) (drop j backwards) ≡ keep (dangles_by finish late forwards) (drop i backwards)
 
-module _ (finish late forwards backwards : List ℕ) (j : ℕ) where
-  pub skip_none : j ≤ length backwards → Skipping finish late forwards backwards j j
-  skip_none h = record { from = omega arith; to = h; same = refl }
+module _ (finish late forwards backwards : List ℕ) (j i : ℕ) (g : Skipping finish late forwards backwards j i) where
+  pub skip_hit : dangles_by finish late forwards (get_or backwards i 0) ≡ true → Skips finish late forwards backwards j i
+  skip_hit e = record { from = g.from; to = g.to; same = g.same; hit = λ l. e }
 
-  module _ (i : ℕ) (g : Skipping finish late forwards backwards j i) where
-    pub skip_end : length backwards ≤ i → Skips finish late forwards backwards j i
-    skip_end h = record { from = g.from; to = g.to; same = g.same; hit = λ l. absurd (omega arith) }
-
-    pub skip_hit : dangles_by finish late forwards (get_or backwards i 0) ≡ true → Skips finish late forwards backwards j i
-    skip_hit e = record { from = g.from; to = g.to; same = g.same; hit = λ l. e }
-
-    pub skip_on : i < length backwards → dangles_by finish late forwards (get_or backwards i 0) ≡ false → Skipping finish late forwards backwards j (i + 1)
-    unfolding keep put
-    skip_on h e =
-        let d : drop i backwards ≡ get_or backwards i 0 ∷ drop (i + 1) backwards = rw (add-one i) (drop-cons backwards i 0 h) in
-        record { from = omega (arith, g.from); to = omega arith; same = g.same ∙ ap (keep (dangles_by finish late forwards)) d ∙ rw e }
+  pub skip_on : i < length backwards → dangles_by finish late forwards (get_or backwards i 0) ≡ false → Skipping finish late forwards backwards j (i + 1)
+  unfolding keep put
+  skip_on h e =
+      let d : drop i backwards ≡ get_or backwards i 0 ∷ drop (i + 1) backwards = rw (add-one i) (drop-cons backwards i 0 h) in
+      record { from = omega (arith, g.from); to = omega arith; same = g.same ∙ ap (keep (dangles_by finish late forwards)) d ∙ rw e }

@@ -36,7 +36,6 @@ pub record Encloses (finish late list : List ℕ) (bottom top : ℕ) (out : List
 
 -- places of the columns for the forward and the backward writes, and the backward ones by low end
 pub record Sides (finish late forwards backwards : List ℕ) : Type 0 where
-  pub long : length late ≡ length finish
   pub forth : Inside finish forwards
   pub back : Inside finish backwards
   pub rises : Rises finish late backwards

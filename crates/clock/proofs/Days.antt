@@ -12,7 +12,7 @@ use borrow.Author.Tests.{ltb-true, ltb-false, leb-true, ne_eqb, eqb-false}
 use Rattle.lists.specs.Lists.{all}
 use Rattle.text.specs.Decimal.{digit, digits, decimal}
 use Rattle.text.proofs.Digits.{digits_last, digits_more}
-use Rattle.parsing.specs.declared.Number.TheVariants.{Is, Nothing}
+use Rattle.std.specs.Prelude.{Some, None}
 use Rattle.parsing.specs.Numbers.{is_digit, worth, held, says, number_of, number_in}
 use Rattle.parsing.proofs.Back.{decimal_number}
 use Rattle.clock.specs.Clock.{leading_zero, days_in}
@@ -41,12 +41,12 @@ pub record Digits (t : List ℕ) (n : ℕ) : Type 0 where
   pub value : worth 0 t ≡ n
   pub fits : n < 2 ^ 64
 
-pub number_is : (t : List ℕ) (n : ℕ) → number_of t ≡ Is n → Digits t n
+pub number_is : (t : List ℕ) (n : ℕ) → number_of t ≡ Some n → Digits t n
 unfolding number_of says held
 number_is t n h = go (ltb (length t) 1) refl (all is_digit t) refl (ltb (worth 0 t) (2 ^ 64)) refl h
   where
     go : (b : Bool) → ltb (length t) 1 ≡ b → (d : Bool) → all is_digit t ≡ d → (f : Bool) → ltb (worth 0 t) (2 ^ 64) ≡ f
-        → cond b Nothing (cond d (cond f (Is (worth 0 t)) Nothing) Nothing) ≡ Is n → Digits t n
+        → cond b None (cond d (cond f (Some (worth 0 t)) None) None) ≡ Some n → Digits t n
     go true e d g f i h = let z : ◌≡◌ {A = ℕ} 0 1 = cc in absurd (omega arith)
     go false e false g f i h = let z : ◌≡◌ {A = ℕ} 0 1 = cc in absurd (omega arith)
     go false e true g false i h = let z : ◌≡◌ {A = ℕ} 0 1 = cc in absurd (omega arith)
@@ -123,15 +123,15 @@ decimal_leads zero h = rw (digits_last 20 0 (omega arith) (omega arith)) refl
 decimal_leads (suc n) h = over_leads (digits 20 (suc n)) (digits_over 20 (suc n) (omega arith) (omega arith))
 
 -- Days are the decimal digits of a number of 64 bits.
-pub days_are : (t : List ℕ) (n : ℕ) → days_in t ≡ Is n → (t ≡ decimal n) × (n < 2 ^ 64)
+pub days_are : (t : List ℕ) (n : ℕ) → days_in t ≡ Some n → (t ≡ decimal n) × (n < 2 ^ 64)
 unfolding days_in number_in
 days_are t n h = go (leading_zero t) refl (ltb 20 (length t)) refl h
   where
-    go : (b : Bool) → leading_zero t ≡ b → (l : Bool) → ltb 20 (length t) ≡ l → cond b Nothing (cond l Nothing (number_of t)) ≡ Is n → (t ≡ decimal n) × (n < 2 ^ 64)
+    go : (b : Bool) → leading_zero t ≡ b → (l : Bool) → ltb 20 (length t) ≡ l → cond b None (cond l None (number_of t)) ≡ Some n → (t ≡ decimal n) × (n < 2 ^ 64)
     go true z l e h = let z : ◌≡◌ {A = ℕ} 0 1 = cc in absurd (omega arith)
     go false z true e h = let z : ◌≡◌ {A = ℕ} 0 1 = cc in absurd (omega arith)
     go false z false e h = let d = number_is t n h in (digits_canonical t n z d (ltb-false 20 (length t) e), d.fits)
 
-pub days_back : (n : ℕ) → n < 2 ^ 64 → days_in (decimal n) ≡ Is n
+pub days_back : (n : ℕ) → n < 2 ^ 64 → days_in (decimal n) ≡ Some n
 unfolding days_in
 days_back n h = rw (decimal_leads n h) (decimal_number n h)

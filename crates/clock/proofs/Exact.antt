@@ -9,8 +9,7 @@ use lib.Seq.{take_all, take_at, drop-drop, drop-append-add, length-take-le}
 use Rattle.history.specs.Table.{largest_stamp}
 use Rattle.text.specs.Decimal.{decimal}
 use Rattle.text.proofs.Digits.{decimal_length}
-use Rattle.parsing.specs.declared.Number.{Number}
-use Rattle.parsing.specs.declared.Number.TheVariants.{Is}
+use Rattle.std.specs.Prelude.{Option, Some}
 use Rattle.clock.specs.Clock.{colon, point, two, three, time_of, clock_of, days_in, field_in, slice, said_at, clock_in, SaysExactly}
 use Rattle.clock.proofs.Days.{days_are, days_back}
 use Rattle.clock.proofs.Fields.{field_two, field_three, two_said, three_said, with_field_is, with_field_back}
@@ -51,7 +50,7 @@ module _ (s d h m c u : ℕ) (e : s ≡ (((d * 24 + h) * 60 + m) * 60 + c) * 100
 
 -- What a text says is the stamp of which it is the clock text.
 module _ (t : List ℕ) (s : ℕ) where
-  said_are : (n : ℕ) → said_at n t ≡ Is s → length t ≡ n + 13 → (s ≤ largest_stamp) × (t ≡ clock_of s)
+  said_are : (n : ℕ) → said_at n t ≡ Some s → length t ≡ n + 13 → (s ≤ largest_stamp) × (t ≡ clock_of s)
   unfolding said_at
   said_are n h l =
       let m = with_field_is 1000 _ (field_in point (slice (n + 9) 4 t)) s h in
@@ -70,10 +69,10 @@ module _ (t : List ℕ) (s : ℕ) where
       )
 
   -- a text too short for the fields has no days
-  days_long : (n d : ℕ) → days_in (take n t) ≡ Is d → 1 ≤ n
+  days_long : (n d : ℕ) → days_in (take n t) ≡ Some d → 1 ≤ n
   days_long n d h = omega (arith, (decimal_length d).0, ap length (days_are (take n t) d h).0, length-take n t)
 
-  said_long : said_at (length t - 13) t ≡ Is s → 13 ≤ length t
+  said_long : said_at (length t - 13) t ≡ Some s → 13 ≤ length t
   unfolding said_at
   said_long h =
       let n = length t - 13 in
@@ -83,7 +82,7 @@ module _ (t : List ℕ) (s : ℕ) where
       let a = with_field_is 24 (days_in (take n t)) (field_in colon (slice n 3 t)) b.count b.counted in
       omega (arith, days_long n a.count a.counted)
 
-  clock_are : clock_in t ≡ Is s → (s ≤ largest_stamp) × (t ≡ clock_of s)
+  clock_are : clock_in t ≡ Some s → (s ≤ largest_stamp) × (t ≡ clock_of s)
   unfolding clock_in
   clock_are h = said_are (length t - 13) h (omega (arith, said_long h))
 
@@ -93,7 +92,7 @@ unfolding clock_of
 clock_length s = length-append (decimal (s / 86400000)) (time_of s)
 
 module _ (s : ℕ) (small : s ≤ largest_stamp) where
-  text_said : (d r : List ℕ) → d ≡ decimal (s / 86400000) → r ≡ time_of s → said_at (length d) (d ++ r) ≡ Is s
+  text_said : (d r : List ℕ) → d ≡ decimal (s / 86400000) → r ≡ time_of s → said_at (length d) (d ++ r) ≡ Some s
   unfolding said_at
   text_said d r ed er =
       let days = days_back (s / 86400000) (omega arith) in
@@ -111,7 +110,7 @@ module _ (s : ℕ) (small : s ≤ largest_stamp) where
       at : (k n : ℕ) → length d + k ≡ n → drop n (d ++ r) ≡ drop k r
       at k n e = ap (λ (j : ℕ). drop j (d ++ r)) (sym e) ∙ drop-append-add d r k
 
-  clock_back : clock_in (clock_of s) ≡ Is s
+  clock_back : clock_in (clock_of s) ≡ Some s
   unfolding clock_in clock_of
   clock_back =
       let e : length (decimal (s / 86400000) ++ time_of s) - 13 ≡ length (decimal (s / 86400000)) = omega (arith, length-append (decimal (s / 86400000)) (time_of s)) in
@@ -122,5 +121,5 @@ pub clock_exactly : (t : List ℕ) → SaysExactly t (clock_in t)
 clock_exactly t s = (clock_are t s, λ h. ap clock_in h.1 ∙ clock_back s h.0)
 
 -- The same of what a call read.
-pub read_exactly : (t : List ℕ) (r : Number) → r ≡ clock_in t → (r ≡ clock_in t) × SaysExactly t r
+pub read_exactly : (t : List ℕ) (r : Option ℕ) → r ≡ clock_in t → (r ≡ clock_in t) × SaysExactly t r
 read_exactly t r e = (e, rw e (clock_exactly t))

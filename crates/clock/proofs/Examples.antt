@@ -5,7 +5,7 @@ use mathlib.Core.Path.{◌≡◌, refl}
 use mathlib.Core.List.{List, [], ◌∷◌, map}
 use Rattle.lists.specs.Lists.{all}
 use Rattle.text.specs.Decimal.{digits, decimal}
-use Rattle.parsing.specs.declared.Number.TheVariants.{Is, Nothing}
+use Rattle.std.specs.Prelude.{Some, None}
 use Rattle.parsing.specs.Numbers.{is_digit, worth, held, says, number_of, number_in}
 use Rattle.clock.specs.Clock.{clock_of, leading_zero, days_in, field_in, with_field, said_at, clock_in}
 
@@ -28,7 +28,7 @@ pub written : map clock_of stamps ≡ texts
 unfolding texts clock_of decimal digits
 written = refl
 
-pub read : map clock_in texts ≡ map (λ s. Is s) stamps
+pub read : map clock_in texts ≡ map (λ s. Some s) stamps
 unfolding texts clock_in said_at with_field field_in days_in leading_zero number_in number_of says held worth is_digit all
 read = refl
 
@@ -67,6 +67,6 @@ others =
     ∷ (48 ∷ 58 ∷ 43 ∷ 49 ∷ 58 ∷ 48 ∷ 48 ∷ 58 ∷ 48 ∷ 48 ∷ 46 ∷ 48 ∷ 48 ∷ 48 ∷ [])
     ∷ []
 
-pub refused : map clock_in others ≡ map (λ t. Nothing) others
+pub refused : map clock_in others ≡ map (λ t. None) others
 unfolding others clock_in said_at with_field field_in days_in leading_zero number_in number_of says held worth is_digit all
 refused = refl

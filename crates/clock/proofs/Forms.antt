@@ -8,24 +8,23 @@ use native.Mathlib.Omega.{arith}
 use Rattle.lists.specs.Lists.{all}
 use Rattle.history.specs.Table.{largest_stamp}
 use Rattle.text.specs.Decimal.{decimal}
-use Rattle.parsing.specs.declared.Number.{Number}
-use Rattle.parsing.specs.declared.Number.TheVariants.{Is, Nothing}
+use Rattle.std.specs.Prelude.{Option, Some, None}
 use Rattle.parsing.specs.Numbers.{is_digit, number_of, number_in, is_number}
 use Rattle.clock.specs.Clock.{clock_of, leading_zero, days_in, field_in, with_field, said_at, clock_in, stamp_in}
 use Rattle.clock.proofs.Days.{number_is}
 use Rattle.clock.proofs.Exact.{clock_exactly}
 
 module _ (t : List ℕ) where
-  pub stamp_number : (x : ℕ) → number_of t ≡ Is x → stamp_in t ≡ Is x
+  pub stamp_number : (x : ℕ) → number_of t ≡ Some x → stamp_in t ≡ Some x
   unfolding stamp_in is_number
   stamp_number x e = rw e
 
-  pub stamp_clock : number_of t ≡ Nothing → stamp_in t ≡ clock_in t
+  pub stamp_clock : number_of t ≡ None → stamp_in t ≡ clock_in t
   unfolding stamp_in is_number
   stamp_clock e = rw e
 
 -- an empty text says no stamp
-pub stamp_none : stamp_in [] ≡ Nothing
+pub stamp_none : stamp_in [] ≡ None
 unfolding stamp_in clock_in said_at with_field field_in days_in leading_zero number_in number_of is_number
 stamp_none = refl
 
@@ -43,13 +42,13 @@ clock_digits : (s : ℕ) → all is_digit (clock_of s) ≡ false
 unfolding clock_of is_digit
 clock_digits s = other_digits (decimal (s / 86400000)) 58 _ refl
 
-clock_number : (s : ℕ) → number_of (clock_of s) ≡ Nothing
+clock_number : (s : ℕ) → number_of (clock_of s) ≡ None
 clock_number s = go (number_of (clock_of s)) refl
   where
-    go : (n : Number) → number_of (clock_of s) ≡ n → n ≡ Nothing
-    go Nothing e = refl
-    go (Is x) e = let d = (number_is (clock_of s) x e).each in let f = clock_digits s in let z : ◌≡◌ {A = ℕ} 0 1 = cc in absurd (omega arith)
+    go : (n : Option ℕ) → number_of (clock_of s) ≡ n → n ≡ None
+    go None e = refl
+    go (Some x) e = let d = (number_is (clock_of s) x e).each in let f = clock_digits s in let z : ◌≡◌ {A = ℕ} 0 1 = cc in absurd (omega arith)
 
 -- A stamp's clock text says the stamp in a cell that takes either form.
-pub stamp_text : (s : ℕ) → s ≤ largest_stamp → stamp_in (clock_of s) ≡ Is s
+pub stamp_text : (s : ℕ) → s ≤ largest_stamp → stamp_in (clock_of s) ≡ Some s
 stamp_text s h = stamp_clock (clock_of s) (clock_number s) ∙ (clock_exactly (clock_of s) s).1 (h, refl)

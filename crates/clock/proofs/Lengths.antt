@@ -1,6 +1,6 @@
 -- How long clock texts are: from 14 bytes to 24.
 -- Assumes nothing.
-use Prim.Native.Nat.{ℕ, zero, suc, ◌+◌, ◌/◌, ◌^◌, ◌≤◌, ◌<◌}
+use Prim.Native.Nat.{ℕ, zero, suc, ◌/◌, ◌^◌, ◌≤◌, ◌<◌}
 use mathlib.Core.Path.{◌≡◌, refl, ap}
 use mathlib.Core.Bool.{Bool, true, false, cond}
 use mathlib.Core.List.{List, [], ◌∷◌, ◌++◌}
@@ -12,8 +12,7 @@ use borrow.Author.Tests.{ltb-false}
 use Rattle.history.specs.Table.{largest_stamp}
 use Rattle.text.specs.Decimal.{digit, digits, decimal}
 use Rattle.text.proofs.Digits.{decimal_length}
-use Rattle.parsing.specs.declared.Number.{Number}
-use Rattle.parsing.specs.declared.Number.TheVariants.{Is, Nothing}
+use Rattle.std.specs.Prelude.{Option, Some, None}
 use Rattle.clock.specs.Clock.{clock_of, clock_in}
 use Rattle.clock.proofs.Exact.{clock_length, clock_exactly}
 
@@ -36,15 +35,15 @@ clock_short s h = omega (arith, clock_length s, digits_few 20 10 (s / 86400000) 
 
 -- a text of another length says nothing
 module _ (t : List ℕ) where
-  read_outside : ((s : ℕ) → s ≤ largest_stamp → length t ≡ length (clock_of s) → ⊥) → Nothing ≡ clock_in t
+  read_outside : ((s : ℕ) → s ≤ largest_stamp → length t ≡ length (clock_of s) → ⊥) → None ≡ clock_in t
   read_outside other = go (clock_in t) refl
     where
-      go : (n : Number) → clock_in t ≡ n → Nothing ≡ n
-      go Nothing e = refl
-      go (Is s) e = let is = (clock_exactly t s).0 e in absurd (other s is.0 (ap length is.1))
+      go : (n : Option ℕ) → clock_in t ≡ n → None ≡ n
+      go None e = refl
+      go (Some s) e = let is = (clock_exactly t s).0 e in absurd (other s is.0 (ap length is.1))
 
-  pub read_short : length t < 14 → Nothing ≡ clock_in t
+  pub read_short : length t < 14 → None ≡ clock_in t
   read_short h = read_outside (λ s small e. omega (arith, clock_length s, (decimal_length (s / 86400000)).0))
 
-  pub read_long : 24 < length t → Nothing ≡ clock_in t
+  pub read_long : 24 < length t → None ≡ clock_in t
   read_long h = read_outside (λ s small e. omega (arith, clock_short s small))

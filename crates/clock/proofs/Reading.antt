@@ -1,18 +1,15 @@
 -- The reading call, part by part: days, a field behind its mark, a count with a field behind it, and the whole.
 -- Assumes nothing.
-use Prim.Native.Nat.{ℕ, ◌+◌, ◌-◌, ◌*◌, ◌/◌, ◌≤◌, ◌<◌}
+use Prim.Native.Nat.{ℕ, ◌+◌, ◌-◌, ◌*◌, ◌≤◌, ◌<◌}
 use mathlib.Core.Path.{◌≡◌, refl, sym}
 use mathlib.Core.Bool.{true, false}
 use mathlib.Core.List.{List, [], ◌∷◌}
-use native.Mathlib.Nat.{le-div_iff_mul-le, div-lt_iff_lt-mul}
 use native.Mathlib.Omega.{arith}
-use lib.Dec.{eqb}
 use lib.ListN.{length, get_or, take, drop}
 use lib.Seq.{take_all}
 use borrow.Author.Tests.{lt-ltb, le-ltb, eq-eqb, ne_eqb}
 use Rattle.history.specs.Table.{largest_stamp}
-use Rattle.parsing.specs.declared.Number.{Number}
-use Rattle.parsing.specs.declared.Number.TheVariants.{Is, Nothing}
+use Rattle.std.specs.Prelude.{Option, Some, None}
 use Rattle.parsing.specs.Numbers.{number_of, number_in}
 use Rattle.clock.specs.Clock.{colon, point, leading_zero, days_in, field_in, with_field, said_at, clock_in}
 
@@ -22,14 +19,20 @@ leads_short [] h = refl
 leads_short (c ∷ []) h = refl
 leads_short (c ∷ d ∷ t) h = absurd (omega arith)
 
-pub leads_some : (t : List ℕ) → 2 ≤ length t → eqb (get_or t 0 0) 48 ≡ leading_zero t
+pub leads_zero : (t : List ℕ) → 2 ≤ length t → get_or t 0 0 ≡ 48 → true ≡ leading_zero t
 unfolding leading_zero
-leads_some [] h = absurd (omega arith)
-leads_some (c ∷ []) h = absurd (omega arith)
-leads_some (c ∷ d ∷ t) h = refl
+leads_zero [] h e = absurd (omega arith)
+leads_zero (c ∷ []) h e = absurd (omega arith)
+leads_zero (c ∷ d ∷ t) h e = sym (eq-eqb c 48 e)
+
+pub leads_other : (t : List ℕ) → 2 ≤ length t → (get_or t 0 0 ≡ 48 → ⊥) → false ≡ leading_zero t
+unfolding leading_zero
+leads_other [] h e = absurd (omega arith)
+leads_other (c ∷ []) h e = absurd (omega arith)
+leads_other (c ∷ d ∷ t) h e = sym (ne_eqb c 48 e)
 
 module _ (t : List ℕ) where
-  pub days_zero : leading_zero t ≡ true → Nothing ≡ days_in t
+  pub days_zero : leading_zero t ≡ true → None ≡ days_in t
   unfolding days_in
   days_zero e = sym (rw e refl)
 
@@ -38,12 +41,12 @@ module _ (t : List ℕ) where
   days_number e = sym (rw e refl)
 
 module _ (mark : ℕ) where
-  pub field_none : (t : List ℕ) → length t < 1 → Nothing ≡ field_in mark t
+  pub field_none : (t : List ℕ) → length t < 1 → None ≡ field_in mark t
   unfolding field_in
   field_none [] h = refl
   field_none (c ∷ t) h = absurd (omega arith)
 
-  pub field_other : (t : List ℕ) → 1 ≤ length t → (get_or t 0 0 ≡ mark → ⊥) → Nothing ≡ field_in mark t
+  pub field_other : (t : List ℕ) → 1 ≤ length t → (get_or t 0 0 ≡ mark → ⊥) → None ≡ field_in mark t
   unfolding field_in
   field_other [] h e = absurd (omega arith)
   field_other (c ∷ t) h e = sym (rw (ne_eqb c mark e) refl)
@@ -53,40 +56,32 @@ module _ (mark : ℕ) where
   field_some [] k h e l = absurd (omega arith)
   field_some (c ∷ t) k h e l = rw (take_all k t (omega arith)) (sym (rw (eq-eqb c mark e) refl))
 
--- a count of a larger unit that the largest stamp holds, and one that it does not
-module _ (limit v : ℕ) (some : 0 < limit) where
-  pub units_held : v ≤ largest_stamp / limit → v * limit ≤ largest_stamp
-  units_held h = (le-div_iff_mul-le some).0 h
-
-  pub units_over : largest_stamp / limit < v → largest_stamp < v * limit
-  units_over h = (div-lt_iff_lt-mul some).0 h
-
-module _ (limit : ℕ) (a b : Number) where
-  pub no_count : a ≡ Nothing → Nothing ≡ with_field limit a b
+module _ (limit : ℕ) (a b : Option ℕ) where
+  pub no_count : a ≡ None → None ≡ with_field limit a b
   unfolding with_field
   no_count e = sym (rw e refl)
 
-  module _ (v : ℕ) (counted : a ≡ Is v) where
-    pub no_field : b ≡ Nothing → Nothing ≡ with_field limit a b
+  module _ (v : ℕ) (counted : a ≡ Some v) where
+    pub no_field : b ≡ None → None ≡ with_field limit a b
     unfolding with_field
     no_field e = sym (rw (counted, e) refl)
 
-    module _ (x : ℕ) (said : b ≡ Is x) where
-      pub field_over : limit ≤ x → Nothing ≡ with_field limit a b
+    module _ (x : ℕ) (said : b ≡ Some x) where
+      pub field_over : limit ≤ x → None ≡ with_field limit a b
       unfolding with_field
       field_over h = sym (rw (counted, said, le-ltb x limit h) refl)
 
-      pub stamp_over : x < limit → largest_stamp < v * limit + x → Nothing ≡ with_field limit a b
+      pub stamp_over : x < limit → largest_stamp < v * limit + x → None ≡ with_field limit a b
       unfolding with_field
       stamp_over h l = sym (rw (counted, said, lt-ltb x limit h, lt-ltb largest_stamp (v * limit + x) l) refl)
 
-      pub stamp_held : x < limit → v * limit + x ≤ largest_stamp → Is (v * limit + x) ≡ with_field limit a b
+      pub stamp_held : x < limit → v * limit + x ≤ largest_stamp → Some (v * limit + x) ≡ with_field limit a b
       unfolding with_field
       stamp_held h l = sym (rw (counted, said, lt-ltb x limit h, le-ltb largest_stamp (v * limit + x) l) refl)
 
 module _ (t : List ℕ) where
   -- the parts of the whole
-  pub read_parts : (n : ℕ) → n ≡ length t - 13 → (d h i m j c k u r : Number)
+  pub read_parts : (n : ℕ) → n ≡ length t - 13 → (d h i m j c k u r : Option ℕ)
       → d ≡ days_in (take n t)
       → h ≡ field_in colon (take (n + 3 - n) (drop n t)) → i ≡ with_field 24 d h
       → m ≡ field_in colon (take (n + 6 - (n + 3)) (drop (n + 3) t)) → j ≡ with_field 60 i m

@@ -10,7 +10,8 @@ use borrow.Author.Tests.{lt-ltb, le-ltb}
 use Rattle.lists.proofs.Stores.{sets_front, sets_behind}
 use Rattle.history.specs.declared.Answer.{Answer}
 use Rattle.history.specs.Table.{largest_stamp}
-use Rattle.history.specs.Answer.{bad_span, short_list, refused, passed, first_met}
+use Rattle.history.specs.Answer.{refused, passed, first_met}
+use Rattle.history.specs.declared.Code.TheVariants.{BadSpan, ShortList}
 use Rattle.text.specs.Decimal.{decimal}
 use Rattle.clock.specs.Clock.{time_of, clock_of, write_tests, write_answer, write_text, Writes, WritesStamp}
 use Rattle.clock.proofs.Exact.{clock_exactly}
@@ -21,7 +22,7 @@ abbrev pub Written : ℕ → List ℕ → Answer → List ℕ → Type 0
 Written s old a new = Writes s old a new × WritesStamp s old a new
 
 module _ (s : ℕ) (old : List ℕ) (a : Answer) where
-  pub written_large : largest_stamp < s → a ≡ refused bad_span 0 → Written s old a old
+  pub written_large : largest_stamp < s → a ≡ refused BadSpan 0 → Written s old a old
   unfolding write_answer write_text write_tests first_met
   written_large h e =
       let w = lt-ltb largest_stamp s h in
@@ -31,7 +32,7 @@ module _ (s : ℕ) (old : List ℕ) (a : Answer) where
       )
 
   module _ (small : s ≤ largest_stamp) where
-    pub written_short : length old < length (clock_of s) → a ≡ refused short_list 0 → Written s old a old
+    pub written_short : length old < length (clock_of s) → a ≡ refused ShortList 0 → Written s old a old
     unfolding write_answer write_text write_tests first_met
     written_short h e =
         let w = le-ltb largest_stamp s small in

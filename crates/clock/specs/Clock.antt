@@ -1,13 +1,12 @@
 -- Stamps as clock time, days:hh:mm:ss.mmm: the text of a stamp, the stamp of a text, and the writing call (document 02, W-205).
 -- Assumes nothing.
-use Rattle.std.specs.Prelude.{ℕ, ◌+◌, ◌-◌, ◌*◌, ◌/◌, ◌%◌, ◌≤◌, ◌≡◌, ◌↔◌, Bool, false, cond, List, [], ◌∷◌, ◌++◌, eqb, ltb, length, take, drop}
+use Rattle.std.specs.Prelude.{ℕ, ◌+◌, ◌-◌, ◌*◌, ◌/◌, ◌%◌, ◌≤◌, ◌≡◌, ◌↔◌, Bool, false, cond, List, [], ◌∷◌, ◌++◌, eqb, ltb, length, take, drop, Option, Some, None}
 use Rattle.history.specs.declared.Answer.{Answer}
 use Rattle.history.specs.Table.{largest_stamp}
-use Rattle.history.specs.Answer.{bad_span, Test, test, if_so, first_met, passed}
+use Rattle.history.specs.Answer.{Test, test, if_so, first_met, passed}
+use Rattle.history.specs.declared.Code.TheVariants.{BadSpan}
 use Rattle.files.specs.Files.{room_test, after}
 use Rattle.text.specs.Decimal.{digit, decimal}
-use Rattle.parsing.specs.declared.Number.{Number}
-use Rattle.parsing.specs.declared.Number.TheVariants.{Is, Nothing}
 use Rattle.parsing.specs.Numbers.{number_of, number_in, is_number}
 
 -- What stands before hours, minutes and seconds, and before thousandths (02, W-205, "days:hh:mm:ss.mmm").
@@ -40,27 +39,27 @@ leading_zero (c ∷ []) = false
 leading_zero (c ∷ d ∷ t) = eqb c 48
 
 -- What days say (02, W-205, "days decimal without leading zeros (0 itself allowed)"). Days of more than twenty digits are over the largest stamp.
-unfoldable pub days_in : List ℕ → Number
-days_in t = cond (leading_zero t) Nothing (number_in t)
+unfoldable pub days_in : List ℕ → Option ℕ
+days_in t = cond (leading_zero t) None (number_in t)
 
 -- what a field says that begins with a given byte
-unfoldable pub field_in : ℕ → List ℕ → Number
-field_in begin [] = Nothing
-field_in begin (c ∷ t) = cond (eqb c begin) (number_of t) Nothing
+unfoldable pub field_in : ℕ → List ℕ → Option ℕ
+field_in begin [] = None
+field_in begin (c ∷ t) = cond (eqb c begin) (number_of t) None
 
 -- A count with a field behind it, of whose unit `limit` make one of the count's: both in the field's unit. Nothing where the field reaches the limit
 -- (02, W-205, "Hours are 00 to 23, minutes and seconds 00 to 59") or the sum is over the largest stamp, as it then is in every smaller unit.
-unfoldable pub with_field : ℕ → Number → Number → Number
-with_field limit Nothing x = Nothing
-with_field limit (Is v) Nothing = Nothing
-with_field limit (Is v) (Is x) = cond (ltb x limit) (cond (ltb largest_stamp (v * limit + x)) Nothing (Is (v * limit + x))) Nothing
+unfoldable pub with_field : ℕ → Option ℕ → Option ℕ → Option ℕ
+with_field limit None x = None
+with_field limit (Some v) None = None
+with_field limit (Some v) (Some x) = cond (ltb x limit) (cond (ltb largest_stamp (v * limit + x)) None (Some (v * limit + x))) None
 
 -- the bytes from i on, w of them
 abbrev pub slice : ℕ → ℕ → List ℕ → List ℕ
 slice i w t = take w (drop i t)
 
 -- what a text says whose days end at n
-unfoldable pub said_at : ℕ → List ℕ → Number
+unfoldable pub said_at : ℕ → List ℕ → Option ℕ
 said_at n t =
     with_field 1000
     (with_field 60
@@ -69,21 +68,21 @@ said_at n t =
     (field_in point (slice (n + 9) 4 t))
 
 -- The stamp that a clock text says; nothing where it is outside the ranges or over the largest stamp (02, W-205, "is a 19").
-unfoldable pub clock_in : List ℕ → Number
+unfoldable pub clock_in : List ℕ → Option ℕ
 clock_in t = said_at (length t - 13) t
 
 -- A stamp was read out of a text exactly when it is at most the largest and the text is its clock text (02, W-205, "outside these ranges or over the
 -- largest stamp").
-abbrev pub SaysExactly : List ℕ → Number → Type 0
-SaysExactly t read = (s : ℕ) → (read ≡ Is s) ↔ ((s ≤ largest_stamp) × (t ≡ clock_of s))
+abbrev pub SaysExactly : List ℕ → Option ℕ → Type 0
+SaysExactly t read = (s : ℕ) → (read ≡ Some s) ↔ ((s ≤ largest_stamp) × (t ≡ clock_of s))
 
 -- What a start or finish cell says (02, W-205, "Loading takes either form"; "decimal cells keep their rule").
-unfoldable pub stamp_in : List ℕ → Number
+unfoldable pub stamp_in : List ℕ → Option ℕ
 stamp_in t = cond (is_number (number_of t)) (number_of t) (clock_in t)
 
 -- Writing a stamp into a text of some places (02, W-205, "Writing gives 5 (row 0) for a larger stamp, then 10; rows is the text's length").
 unfoldable pub write_tests : ℕ → ℕ → List Test
-write_tests s room = test bad_span (if_so (ltb largest_stamp s)) ∷ room_test (length (clock_of s)) room ∷ []
+write_tests s room = test BadSpan (if_so (ltb largest_stamp s)) ∷ room_test (length (clock_of s)) room ∷ []
 
 unfoldable pub write_answer : ℕ → List ℕ → Answer
 write_answer s text = first_met (write_tests s (length text)) (passed (length (clock_of s)))
@@ -99,5 +98,5 @@ Writes s text answer left = (answer ≡ write_answer s text) × (left ≡ write_
 -- written as clock text").
 pub record WritesStamp (s : ℕ) (text : List ℕ) (answer : Answer) (left : List ℕ) : Type 0 where
   pub short : answer.rows ≤ 24
-  pub back : answer.code ≡ 0 → clock_in (take answer.rows left) ≡ Is s
+  pub back : answer.code ≡ 0 → clock_in (take answer.rows left) ≡ Some s
   pub every : s ≤ largest_stamp → 24 ≤ length text → answer.code ≡ 0

@@ -6,8 +6,7 @@ ghost use Rattle.std.proofs.lemmas.List.Edits.{sets};
 ghost use Rattle.text.specs.Decimal.{digit};
 ghost use Rattle.clock.specs.Clock.{time_of, leading_zero, days_in, field_in, with_field, clock_in, SaysExactly, Writes, WritesStamp};
 
-use history::{Answer, Row};
-use parsing::Number;
+use history::{Answer, Code, Row};
 
 // The thousandths of a day, an hour, a minute and a second.
 const DAY: u64 = 86400000;
@@ -30,7 +29,7 @@ const LONGEST: usize = 24;
 fn digit(n: u64) -> u8
     ensures { result ≡ digit n }
 {
-    (48 + n % 10) as u8
+    b'0' + (n % 10) as u8
 }
 
 // Writes what stands behind the days of a stamp from `at` on.
@@ -66,12 +65,12 @@ pub fn write(stamp: u64, text: &mut [u8]) -> Answer
     ensures back { WritesStamp stamp text.old result text.new }
 {
     if Row::LARGEST_STAMP < stamp {
-        return Answer::refused(Answer::BAD_SPAN, 0);
+        return Code::BadSpan.at(0);
     }
     let days = stamp / DAY;
     let length = text::decimal_length(days) + TIME;
     if text.len() < length {
-        return Answer::refused(Answer::SHORT_LIST, 0);
+        return Code::ShortList.at(0);
     }
     let at = text::put_number(days, text, 0);
     put_time(stamp, text, at);
@@ -82,60 +81,48 @@ pub fn write(stamp: u64, text: &mut [u8]) -> Answer
 fn leading_zero(text: &[u8]) -> bool
     ensures { result ≡ leading_zero text.now }
 {
-    if text.len() < 2 {
-        return false;
-    }
-    text[0] == b'0'
+    matches!(text, [b'0', _, ..])
 }
 
 // The number of days, which has no leading zero.
-fn days_in(text: &[u8]) -> Number
+fn days_in(text: &[u8]) -> Option<u64>
     ensures { result ≡ days_in text.now }
 {
     if leading_zero(text) {
-        return Number::Nothing;
+        return None;
     }
     parsing::number_in(text)
 }
 
 // The number of a field that begins with a given byte.
-fn field(begin: u8, text: &[u8]) -> Number
+fn field(begin: u8, text: &[u8]) -> Option<u64>
     ensures { result ≡ field_in begin text.now }
 {
-    if text.len() < 1 {
-        return Number::Nothing;
+    match text {
+        [first, rest @ ..] if *first == begin => parsing::number_of(rest),
+        _ => None,
     }
-    if text[0] != begin {
-        return Number::Nothing;
-    }
-    parsing::number_of(&text[1..])
 }
 
 // A count and a field behind it, in the field's unit.
-fn with_field(limit: u64, count: Number, field: Number) -> Number
+fn with_field(limit: u64, count: Option<u64>, field: Option<u64>) -> Option<u64>
     ensures { result ≡ with_field limit count field }
 {
-    let Number::Is(v) = count else {
-        return Number::Nothing;
-    };
-    let Number::Is(x) = field else {
-        return Number::Nothing;
-    };
+    let v = count?;
+    let x = field?;
     if limit <= x {
-        return Number::Nothing;
+        return None;
     }
-    if Row::LARGEST_STAMP / limit < v {
-        return Number::Nothing;
+    let units = v.checked_mul(limit)?;
+    let sum = units.checked_add(x)?;
+    if Row::LARGEST_STAMP < sum {
+        return None;
     }
-    let units = v * limit;
-    if Row::LARGEST_STAMP - units < x {
-        return Number::Nothing;
-    }
-    Number::Is(units + x)
+    Some(sum)
 }
 
 // The stamp of a text with room for days and for what stands behind them.
-fn parts(text: &[u8]) -> Number
+fn parts(text: &[u8]) -> Option<u64>
     requires { 13 ≤ length text.now }
     ensures { result ≡ clock_in text.now }
 {
@@ -149,15 +136,12 @@ fn parts(text: &[u8]) -> Number
 
 // The stamp that a clock text says: no other text says one. A text that is shorter or longer than all of them
 // is told by its length alone.
-pub fn read(text: &[u8]) -> Number
+pub fn read(text: &[u8]) -> Option<u64>
     ensures said { result ≡ clock_in text.now }
     ensures exactly { SaysExactly text.now result }
 {
-    if text.len() < SHORTEST {
-        return Number::Nothing;
-    }
-    if LONGEST < text.len() {
-        return Number::Nothing;
+    if text.len() < SHORTEST || LONGEST < text.len() {
+        return None;
     }
     parts(text)
 }

@@ -1,7 +1,7 @@
 -- Given rows by rising time: the loop that puts the time of each one's start at the place of its row, and what the sort by these leaves.
 -- Assumes nothing.
 use Prim.Native.Nat.{ℕ, ◌+◌, ◌≤◌, ◌<◌}
-use mathlib.Core.Path.{◌≡◌, refl, sym, ap, ◌∙◌}
+use mathlib.Core.Path.{◌≡◌, sym, ap, ◌∙◌}
 use mathlib.Core.Logic.{◌⊎◌, inl, inr}
 use mathlib.Core.Bool.{Bool}
 use mathlib.Core.List.{List, map}
@@ -27,9 +27,6 @@ module _ (t rows keys₀ : List ℕ) where
   pub record Keying (i : ℕ) (keys : List ℕ) : Type 0 where
     pub wide : length keys ≡ length keys₀
     pub keyed : (k : ℕ) → k < i → get_or keys (get_or rows k 0) 0 ≡ time_of (starting (op_at t (get_or rows k 0)))
-
-  pub keying_none : Keying 0 keys₀
-  keying_none = record { wide = refl; keyed = λ k h. absurd (omega arith) }
 
   -- each row has a place
   pub keying_inside : Within t rows → row_count t ≤ length keys₀ → (i : ℕ) (keys : List ℕ) → i < length rows → Keying i keys → get_or rows i 0 < length keys

@@ -129,20 +129,10 @@ pub made : (t rows start ends finish writer last prev : List ℕ) → RanksOf t 
 made t rows start ends finish writer last prev r b e k =
     record { columns = λ register g. columns_of_lem g writer e start ends (r (history t register) (listed_stands g)) finish last prev b; chains = k }
 
--- what the chains are made from
-pub link_asks : {t : List ℕ} {register : ℕ} {rows : List ℕ} → Listed t register rows → (writer last₀ last prev : List ℕ) → writer ≡ map (writer_of t rows) rows
-    → last ≡ map (λ _. 0) last₀ → length last₀ ≡ length rows → length prev ≡ length rows
-    → ((j : ℕ) → j < length writer → get_or writer j 0 < length writer) × ((length last ≡ length writer) × (((j : ℕ) → j < length writer → get_or last j 0 ≡ 0) × (length prev ≡ length writer)))
-link_asks {t} {register} {rows} g writer last₀ last prev e z a b = (
-  λ j l. omega (arith, tied.long, tied.inside j (omega (arith, tied.long))),
-  (omega (arith, wide, long), (λ j l. ap (λ (l : List ℕ). get_or l j 0) z ∙ get_d_map (λ _. 0) last₀ j 0 0 (omega (arith, wide)), omega (arith, wide))),
-)
+-- what the chains are made from: each write is a position
+pub link_asks : {t : List ℕ} {register : ℕ} {rows : List ℕ} → Listed t register rows → (writer : List ℕ) → writer ≡ map (writer_of t rows) rows
+    → (j : ℕ) → j < length writer → get_or writer j 0 < length writer
+link_asks {t} {register} {rows} g writer e j l = omega (arith, tied.long, tied.inside j (omega (arith, tied.long)))
   where
     tied : Tied (map (by_row g) rows) writer
     tied = made_tied g writer e
-
-    wide : length writer ≡ length rows
-    wide = tied.long ∙ length-map rows (by_row g)
-
-    long : length last ≡ length last₀
-    long = ap length z ∙ length-map last₀ (λ _. 0)

@@ -17,26 +17,16 @@ ghost use Rattle.columns.specs.Falls.{falling_of, Turned};
 
 use history::{Op, Row};
 
-const LARGEST: u64 = 18446744073709551615;
-
-// So many rows are few: a short array does for their keys, which is sooner cleared than a long one.
-const FEW: usize = 32;
-
-// Up to so many, an array of a middle size does.
-const SOME: usize = 256;
-
 // The time of the start of each of the rows, at the place of its row.
 fn times_of(table: &[u64], rows: &[u64], keys: &mut [u64])
     requires fit { Fit table.now rows.now }
     requires table_in_bounds { row_count table.now ≤ length keys.old }
     ensures { Keyed table.now rows.now keys.new }
 {
-    let mut i: usize = 0;
-    while i < rows.len() {
-        let row = rows[i] as usize;
+    for x in rows {
+        let row = *x as usize;
         let o = Op::at(table, row);
         keys[row] = ranking::time(o, o.start);
-        i += 1;
     }
 }
 
@@ -45,16 +35,14 @@ fn by_time(table: &[u64], rows: &[u64]) -> bool
     requires { Fit table.now rows.now }
     ensures { result ≡ true → rows.now ≡ row_numbers (by_time (map (op_at table.now) rows.now)) }
 {
-    let mut first = LARGEST;
-    let mut place = rows.len();
-    while place > 0 {
-        let o = Op::at(table, rows[place - 1] as usize);
+    let mut first = u64::MAX;
+    for place in (0..rows.len()).rev() {
+        let o = Op::at(table, rows[place] as usize);
         let time = ranking::time(o, o.start);
         if first < time {
             return false;
         }
         first = time;
-        place -= 1;
     }
     true
 }
@@ -75,10 +63,20 @@ pub fn sort_rows(table: &[u64], keys: &mut [u64], rows: &mut [u64])
     requires table_in_bounds { row_count table.now ≤ length keys.old }
     ensures { rows.new ≡ row_numbers (by_time (map (op_at table.now) rows.old)) }
 {
-    if by_time(table, rows) {
-        return;
+    if !by_time(table, rows) {
+        sort_times(table, keys, rows);
     }
-    sort_times(table, keys, rows);
+}
+
+// Puts given rows by rising time, with a place for the time of each of at most N rows of the table.
+fn sort_sized<const N: usize>(table: &[u64], rows: &mut [u64])
+    requires fit { Fit table.now rows.old }
+    requires size { N ≤ largest_count }
+    requires room { row_count table.now ≤ N }
+    ensures { rows.new ≡ row_numbers (by_time (map (op_at table.now) rows.old)) }
+{
+    let mut keys = [0u64; N];
+    sort_times(table, &mut keys, rows);
 }
 
 // Puts given rows by rising time, those with one time in their sequence.
@@ -90,18 +88,14 @@ pub fn put_by_time(table: &[u64], rows: &mut [u64])
     if by_time(table, rows) {
         return;
     }
-    if table.len() / Row::COLUMNS <= FEW {
-        let mut few = [0u64; FEW];
-        sort_times(table, &mut few, rows);
-        return;
+    let n = table.len() / Row::COLUMNS;
+    if n <= Row::FEW {
+        sort_sized::<{ Row::FEW }>(table, rows);
+    } else if n <= Row::SOME {
+        sort_sized::<{ Row::SOME }>(table, rows);
+    } else {
+        sort_sized::<{ Row::LARGEST_COUNT }>(table, rows);
     }
-    if table.len() / Row::COLUMNS <= SOME {
-        let mut some = [0u64; SOME];
-        sort_times(table, &mut some, rows);
-        return;
-    }
-    let mut keys = [0u64; Row::LARGEST_COUNT];
-    sort_times(table, &mut keys, rows);
 }
 
 // A write's finish after one of its reads: one below the read's, where that is lower.
@@ -117,37 +111,27 @@ fn shorten(writer: &[u64], finish: &mut [u64])
     requires { (H : List Operation) × Whole H writer.now finish.old }
     ensures { (H : List Operation) → Whole H writer.now finish.old → finish.new ≡ map (new_finish H) H }
 {
-    let mut j = writer.len();
-    while j > 0 {
-        j -= 1;
-        let at = j;
+    for at in (0..writer.len()).rev() {
         let w = writer[at] as usize;
         if w != at {
-            let end = finish[at];
-            let old = finish[w];
-            finish[w] = lowered(end, old);
+            finish[w] = lowered(finish[at], finish[w]);
         }
     }
 }
 
 // The chain of each write's reads, from the last one back, into a slice of zeros and a slice for each position's next.
 fn link(writer: &[u64], last: &mut [u64], prev: &mut [u64])
-    requires by_index { (j : ℕ) → j < length writer.now → get_or writer.now j 0 < length writer.now }
+    requires writers_inside { (j : ℕ) → j < length writer.now → get_or writer.now j 0 < length writer.now }
     requires last_len { length last.old ≡ length writer.now }
-    requires by_index_2 { (j : ℕ) → j < length writer.now → get_or last.old j 0 ≡ 0 }
+    requires last_empty { (j : ℕ) → j < length writer.now → get_or last.old j 0 ≡ 0 }
     requires prev_len { length prev.old ≡ length writer.now }
     ensures { Linked writer.now last.new prev.new }
 {
-    let n = writer.len();
-    let mut i: usize = 0;
-    while i < n {
-        let at = i;
-        let v = writer[at] as usize;
-        i += 1;
+    for (at, w) in writer.iter().enumerate() {
+        let v = *w as usize;
         if v != at {
-            let before = last[v];
-            prev[at] = before;
-            last[v] = i as u64;
+            prev[at] = last[v];
+            last[v] = at as u64 + 1;
         }
     }
 }
@@ -169,7 +153,7 @@ pub fn fill(
     ranking::ranks(table, rows, prev, start, finish);
     writers::writers(table, rows, writer);
     shorten(writer, finish);
-    writers::clear(last);
+    last.fill(0);
     link(writer, last, prev);
 }
 
@@ -177,18 +161,14 @@ pub fn fill(
 // their number.
 fn choose(finish: &[u64], writer: &[u64], keys: &mut [u64], falling: &mut [u64]) -> usize
     requires finish_len { length finish.now ≡ length writer.now }
-    requires writer_in_bounds { length writer.now ≤ length keys.old }
-    requires writer_in_bounds_2 { length writer.now ≤ length falling.old }
+    requires keys_room { length writer.now ≤ length keys.old }
+    requires falling_room { length writer.now ≤ length falling.old }
     ensures { Gathered (is_own writer.now) (Turned finish.now) (length writer.now) falling.old result keys.new falling.new }
 {
-    let n = writer.len();
-    let mut m: usize = 0;
-    let mut i: usize = 0;
-    while i < n {
-        let at = i;
-        keys[at] = LARGEST - finish[at];
-        i += 1;
-        if writer[at] == at as u64 {
+    let mut m = 0;
+    for (at, w) in writer.iter().enumerate() {
+        keys[at] = u64::MAX - finish[at];
+        if *w == at as u64 {
             falling[m] = at as u64;
             m += 1;
         }
@@ -209,23 +189,12 @@ pub fn falls(finish: &[u64], writer: &[u64], keys: &mut [u64], falling: &mut [u6
     m
 }
 
-// The row at a position; 0 past the end.
-fn row_at(rows: &[u64], place: u64) -> u64
-    ensures { result ≡ get_or rows.now place 0 }
-{
-    let i = place as usize;
-    if i < rows.len() { rows[i] } else { 0 }
-}
-
-// The rows at a list of positions.
+// The numbers of a list that stand at the given positions.
 pub fn rows_at(rows: &[u64], places: &[u64], out: &mut [u64])
     requires { length out.old ≡ length places.now }
     ensures { out.new ≡ map (λ j. get_or rows.now j 0) places.now }
 {
-    let mut i: usize = 0;
-    while i < places.len() {
-        let row = row_at(rows, places[i]);
-        out[i] = row;
-        i += 1;
+    for (i, place) in places.iter().enumerate() {
+        out[i] = sorting::key(rows, *place);
     }
 }

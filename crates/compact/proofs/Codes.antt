@@ -12,7 +12,8 @@ use lib.ListN.{length}
 use Rattle.history.specs.declared.Op.{Op}
 use Rattle.history.specs.declared.Answer.{Answer}
 use Rattle.history.specs.Table.{largest_count, history}
-use Rattle.history.specs.Answer.{number, spent, first_met, passed}
+use Rattle.history.specs.Answer.{number, first_met, passed}
+use Rattle.history.specs.declared.Code.TheVariants.{Spent}
 use Rattle.methods.specs.Mark.{Outcome, k_of, mark_tests, mark_of, mark}
 use Rattle.preparation.proofs.Rows.{history_rows}
 use Rattle.meaning.specs.Marked.{Passes, Marked, is_refused, is_spent, is_stale, is_fresh}
@@ -45,7 +46,7 @@ module _ (t u : List ℕ) (register question : ℕ) (f : ℕ → ℕ) (keeps : K
   -- both are marked: fresh of one is fresh of the other
   marked_alike : (a b : Outcome) → Passes (length t) ht question places → Passes (length u) hu question places →
       Marked (length t) ht question most_trials places a → Marked (length u) hu question most_trials places b →
-      a.answer.code ≢ number spent → b.answer.code ≢ number spent → a.answer.code ≡ b.answer.code
+      a.answer.code ≢ number Spent → b.answer.code ≢ number Spent → a.answer.code ≡ b.answer.code
   marked_alike a b p q (is_refused n z l) m x y = absurd (n p)
   marked_alike a b p q (is_spent r l) m x y = absurd (x refl)
   marked_alike a b p q (is_stale r l n) (is_refused n' z l') x y = absurd (n' q)

@@ -6,8 +6,7 @@ use mathlib.Core.Bool.{Bool, true, false, not, cond, ◌||◌, ◌&&◌}
 use mathlib.Core.List.{List, [], ◌∷◌, map, Memᴰ as In}
 use borrow.Author.Tests.{eq-eqb, le-ltb}
 use lib.ListN.{length-map}
-use Rattle.lists.specs.declared.Found.{Found}
-use Rattle.lists.specs.declared.Found.TheVariants.{At, Nothing}
+use Rattle.std.specs.Prelude.{Option, Some, None}
 use Rattle.lists.specs.Lists.{any, first}
 use Rattle.lists.proofs.Tests.{both}
 use Rattle.lists.proofs.Members.{any_ext}
@@ -20,9 +19,9 @@ use Rattle.methods.specs.Mark.{mark_tests}
 use Rattle.compact.specs.Renumbered.{renumbered, Keeps}
 
 -- a condition is not met
-abbrev gone : Found → Bool
-gone (At row) = false
-gone Nothing = true
+abbrev gone : Option ℕ → Bool
+gone (Some row) = false
+gone None = true
 
 -- tests of the same codes that are met alike
 abbrev Same : List Test → List Test → Type 0
@@ -36,12 +35,12 @@ unfolding first_met
 same_met [] [] a b s e = e
 same_met (x ∷ xs) (y ∷ ys) a b s e = go x.fault y.fault s.0.1 (same_met xs ys a b s.1 e)
   where
-    go : (p q : Found) → gone p ≡ gone q → (first_met xs a).code ≡ (first_met ys b).code →
+    go : (p q : Option ℕ) → gone p ≡ gone q → (first_met xs a).code ≡ (first_met ys b).code →
         (refused_or x.code p (first_met xs a)).code ≡ (refused_or y.code q (first_met ys b)).code
-    go (At r) (At t) m ih = ap number s.0.0
-    go (At r) Nothing m ih = absurd (both refl (sym m))
-    go Nothing (At t) m ih = absurd (both refl m)
-    go Nothing Nothing m ih = ih
+    go (Some r) (Some t) m ih = ap number s.0.0
+    go (Some r) None m ih = absurd (both refl (sym m))
+    go None (Some t) m ih = absurd (both refl m)
+    go None None m ih = ih
 same_met [] (y ∷ ys) a b s e = elim s [ ]
 same_met (x ∷ xs) [] a b s e = elim s [ ]
 
@@ -50,7 +49,7 @@ unfolding first any
 gone_first key p [] = refl
 gone_first key p (x ∷ l) = go (p x) (gone_first key p l)
   where
-    go : (b : Bool) → gone (first key p l) ≡ not (any p l) → gone (cond b (At (key x)) (first key p l)) ≡ not (b || any p l)
+    go : (b : Bool) → gone (first key p l) ≡ not (any p l) → gone (cond b (Some (key x)) (first key p l)) ≡ not (b || any p l)
     go true ih = refl
     go false ih = ih
 

@@ -11,7 +11,7 @@ use native.Mathlib.Omega.{arith}
 use borrow.Author.Tests.{lt-ltb, le-ltb, lt-leb}
 use lib.Dec.{ltb}
 use lib.ListN.{length, get_or}
-use Rattle.lists.specs.declared.Found.TheVariants.{Nothing}
+use Rattle.std.specs.Prelude.{None}
 use Rattle.lists.specs.Lists.{first, up_to}
 use Rattle.lists.specs.Pairs.{Pairs}
 use Rattle.lists.proofs.Tests.{both, told_same, told_as, told_and, told_ltb, told_leb, told_false, false_told}
@@ -25,7 +25,7 @@ use Rattle.history.specs.Answer.{lowest_row}
 use Rattle.history.specs.Screen.{wrong_kind, wrong_span, rewrites}
 use Rattle.history.proofs.Operations.{told_flag, told_write, told_read, told_precedes}
 use Rattle.history.proofs.Screened.{told_reopens, Repeats, told_rewrites, told_unwritten, told_early}
-use Rattle.writers.specs.Writers.{writes, seek, writes_at, writer_of, row_op}
+use Rattle.writers.specs.Writers.{seek, writes_at, writer_of, row_op}
 use Rattle.writers.proofs.Seeking.{Seek, found, none, seek?, writes_is, is_writes}
 use Rattle.conditions.specs.declared.RowTest.TheVariants.{Reopening, Twin, Orphan, Early}
 use Rattle.conditions.specs.Tests.{condition, first_opening, shows, lowest_at, Quiet}
@@ -168,7 +168,7 @@ module _ (t rows : List ℕ) where
               ]
 
       -- where no write repeats a value
-      module _ (once : lowest_row (rewrites h) h ≡ Nothing) where
+      module _ (once : lowest_row (rewrites h) h ≡ None) where
         only : (j k : ℕ) → j < n → k < j → is_write (op j) ≡ true → is_write (op k) ≡ true → (op k).value ≡ (op j).value → ⊥
         only j k l b a c e =
             told_false (told_rewrites h (op j)) (nothing_none (λ o. o.row) (rewrites h) h once (op j) (op_in j l)) (a, (op k, op_in k (omega arith), ((row_before k j b l, c), e)))

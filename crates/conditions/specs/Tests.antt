@@ -1,13 +1,14 @@
 -- What the code's names for tests stand for in the definitions of the history (document 01's table, 4 to 9; 02, W-207: 20), and what the code
 -- looks at.
 -- Assumes nothing.
-use Rattle.std.specs.Prelude.{ℕ, ◌≤◌, ◌<◌, ◌≡◌, Bool, false, ◌&&◌, List, [], ◌∷◌, map, ltb, leb, length, get_or}
-use Rattle.lists.specs.declared.Found.{Found}
+use Rattle.std.specs.Prelude.{ℕ, ◌≤◌, ◌<◌, ◌≡◌, Bool, false, ◌&&◌, List, [], ◌∷◌, map, ltb, leb, length, get_or, Option}
 use Rattle.lists.specs.Lists.{first, up_to}
 use Rattle.history.specs.declared.Op.{Op}
 use Rattle.lists.specs.Pairs.{Pairs}
 use Rattle.history.specs.Table.{largest_count, op_at, is_opening, is_write, is_read, precedes}
-use Rattle.history.specs.Answer.{Code, bad_kind, bad_span, second_opening, twin_write, orphan_read, early_read, Test, test, lowest_row}
+use Rattle.history.specs.Answer.{Test, test, lowest_row}
+use Rattle.history.specs.declared.Code.{Code}
+use Rattle.history.specs.declared.Code.TheVariants.{BadKind, BadSpan, SecondOpening, TwinWrite, OrphanRead, EarlyRead}
 use Rattle.history.specs.Screen.{wrong_kind, wrong_span, reopens, rewrites, unwritten, too_early}
 use Rattle.writers.specs.Writers.{Within, seek, row_op}
 use Rattle.conditions.specs.declared.RowTest.{RowTest}
@@ -15,12 +16,12 @@ use Rattle.conditions.specs.declared.RowTest.TheVariants.{Kind, Span, Reopening,
 
 -- the code of each test
 abbrev pub code_of : RowTest → Code
-code_of Kind = bad_kind
-code_of Span = bad_span
-code_of Reopening = second_opening
-code_of Twin = twin_write
-code_of Orphan = orphan_read
-code_of Early = early_read
+code_of Kind = BadKind
+code_of Span = BadSpan
+code_of Reopening = SecondOpening
+code_of Twin = TwinWrite
+code_of Orphan = OrphanRead
+code_of Early = EarlyRead
 
 -- what each test asks of an operation among those of its register
 unfoldable pub condition : RowTest → List Op → Op → Bool
@@ -54,7 +55,7 @@ shows Early t rows column i =
     is_read (row_op t rows i) && (ltb (get_or column i 0) (length rows) && precedes (row_op t rows i) (row_op t rows (get_or column i 0)))
 
 -- the lowest row at whose position a test holds
-abbrev pub lowest_at : (ℕ → Bool) → List ℕ → Found
+abbrev pub lowest_at : (ℕ → Bool) → List ℕ → Option ℕ
 lowest_at p rows = first (λ i. get_or rows i 0) p (up_to (length rows))
 
 -- a test as the code runs it, by what it looks at

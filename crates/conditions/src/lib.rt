@@ -1,15 +1,14 @@
 // Tests 4 to 9 of a list of rows, 20 among them, by the position of each row's write.
 #![tactic(auto)]
 
-ghost use Rattle.std.specs.Prelude.{◌≡◌, true, ◌&&◌, ◌<◌, map, ltb, leb, length, get_or};
+ghost use Rattle.std.specs.Prelude.{◌≡◌, true, ◌&&◌, [], ◌∷◌, ◌<◌, map, ltb, leb, length, get_or};
 ghost use Rattle.history.specs.Table.{op_at, is_opening, is_write, is_read, precedes};
-ghost use Rattle.history.specs.Answer.{number, first_met, passed, or_test};
+ghost use Rattle.history.specs.Answer.{first_met, passed, Ran};
 ghost use Rattle.history.specs.Screen.{wrong_kind, wrong_span};
 ghost use Rattle.writers.specs.Writers.{Within, writer_of, row_op};
 ghost use Rattle.conditions.specs.Tests.{code_of, row_tests, first_opening, shows, lowest_at, shown_test, Quiet, AllQuiet, Listed};
 
-use history::{Answer, Op, Row};
-use lists::Found;
+use history::{Answer, Code, Op, Row};
 
 // The tests that look at each row of the register, in their sequence.
 #[derive(Clone, Copy)]
@@ -25,22 +24,13 @@ enum RowTest {
 fn wrong_kind(o: Op) -> bool
     ensures { result ≡ wrong_kind o }
 {
-    if o.kind == Op::WRITE {
-        return false;
-    }
-    if o.kind == Op::OPENING {
-        return false;
-    }
-    o.kind != Op::READ
+    !o.is_write() && !o.is_read()
 }
 
 fn wrong_span(o: Op) -> bool
     ensures { result ≡ wrong_span o }
 {
-    if o.finish < o.start {
-        return true;
-    }
-    if Row::LARGEST_STAMP < o.finish {
+    if o.finish < o.start || Row::LARGEST_STAMP < o.finish {
         return true;
     }
     o.strays()
@@ -51,15 +41,12 @@ fn first_opening(table: &[u64], rows: &[u64]) -> usize
     requires { Within table.now rows.now }
     ensures { result ≡ first_opening table.now rows.now }
 {
-    let mut i: usize = 0;
-    while i < rows.len() {
-        let o = Op::at(table, rows[i] as usize);
-        if o.is_opening() {
+    for (i, row) in rows.iter().enumerate() {
+        if Op::at(table, *row as usize).is_opening() {
             return i;
         }
-        i += 1;
     }
-    i
+    rows.len()
 }
 
 // Whether the i-th row is an opening, and not the first. An opening is sought only here, so that two of them end the search.
@@ -67,37 +54,28 @@ fn reopens(table: &[u64], rows: &[u64], o: Op, i: usize) -> bool
     requires { Within table.now rows.now }
     ensures { result ≡ (is_opening o && ltb (first_opening table.now rows.now) i) }
 {
-    if o.is_opening() {
-        return first_opening(table, rows) < i;
-    }
-    false
+    o.is_opening() && first_opening(table, rows) < i
 }
 
 // The number at a place; 0 past the end.
 fn entry(list: &[u64], place: usize) -> u64
     ensures { result ≡ get_or list.now place 0 }
 {
-    if place < list.len() { list[place] } else { 0 }
+    list.get(place).copied().unwrap_or(0)
 }
 
 // Whether the i-th row is a write, and the first write of its value another.
 fn twin(o: Op, writer: usize, i: usize) -> bool
     ensures { result ≡ (is_write o && ltb writer i) }
 {
-    if o.is_write() {
-        return writer < i;
-    }
-    false
+    o.is_write() && writer < i
 }
 
 // Whether a row is a read without a write among the n rows.
 fn orphan(o: Op, writer: usize, n: usize) -> bool
     ensures { result ≡ (is_read o && leb n writer) }
 {
-    if o.is_read() {
-        return n <= writer;
-    }
-    false
+    o.is_read() && n <= writer
 }
 
 // Whether a row is a read that precedes its write.
@@ -108,13 +86,10 @@ fn early(table: &[u64], rows: &[u64], o: Op, writer: usize) -> bool
     if !o.is_read() {
         return false;
     }
-    if writer < rows.len() {
-        return o.precedes(Op::at(table, rows[writer] as usize));
-    }
-    false
+    writer < rows.len() && o.precedes(Op::at(table, rows[writer] as usize))
 }
 
-// Whether the i-th row meets the test's condition, by the column that the test looks at.
+// Whether the i-th row meets the test's condition, by the column where the test looks at one: the position of each row's write.
 fn meets(table: &[u64], rows: &[u64], column: &[u64], test: RowTest, i: usize) -> bool
     requires listed { Listed table.now rows.now }
     requires i_in_bounds { i < length rows.now }
@@ -132,46 +107,54 @@ fn meets(table: &[u64], rows: &[u64], column: &[u64], test: RowTest, i: usize) -
 }
 
 // The lowest of the rows that meets the test's condition.
-fn lowest(table: &[u64], rows: &[u64], column: &[u64], test: RowTest) -> Found
+fn lowest(table: &[u64], rows: &[u64], column: &[u64], test: RowTest) -> Option<usize>
     requires { Listed table.now rows.now }
     ensures { result ≡ lowest_at (shows test table.now rows.now column.now) rows.now }
 {
-    let mut i: usize = 0;
-    while i < rows.len() {
+    for (i, row) in rows.iter().enumerate() {
         if meets(table, rows, column, test, i) {
-            let row = rows[i] as usize;
-            return Found::At(row);
+            return Some(*row as usize);
         }
-        i += 1;
     }
-    Found::Nothing
+    None
 }
 
-fn code(test: RowTest) -> u64
-    ensures { result ≡ number (code_of test) }
+fn code(test: RowTest) -> Code
+    ensures { result ≡ code_of test }
 {
     match test {
-        RowTest::Kind => Answer::BAD_KIND,
-        RowTest::Span => Answer::BAD_SPAN,
-        RowTest::Reopening => Answer::SECOND_OPENING,
-        RowTest::Twin => Answer::TWIN_WRITE,
-        RowTest::Orphan => Answer::ORPHAN_READ,
-        RowTest::Early => Answer::EARLY_READ,
+        RowTest::Kind => Code::BadKind,
+        RowTest::Span => Code::BadSpan,
+        RowTest::Reopening => Code::SecondOpening,
+        RowTest::Twin => Code::TwinWrite,
+        RowTest::Orphan => Code::OrphanRead,
+        RowTest::Early => Code::EarlyRead,
     }
 }
 
-// The refusal so far, or what the next test finds. A test that comes after a refusal is not run.
-fn or_test(table: &[u64], rows: &[u64], column: &[u64], answer: Answer, test: RowTest) -> Answer
+// Runs a test: it refuses with the lowest of the rows that meets its condition.
+fn run(table: &[u64], rows: &[u64], column: &[u64], test: RowTest) -> Result<(), Answer>
     requires { Listed table.now rows.now }
-    ensures { result ≡ or_test answer (shown_test table.now rows.now column.now test) }
+    ensures { Ran (shown_test table.now rows.now column.now test ∷ []) result }
 {
-    if answer.code != 0 {
-        return answer;
-    }
     match lowest(table, rows, column, test) {
-        Found::At(row) => Answer::refused(code(test), row as u64),
-        Found::Nothing => answer,
+        Some(row) => Err(code(test).at(row as u64)),
+        None => Ok(()),
     }
+}
+
+// Runs tests 4 to 9 in their sequence.
+fn run_all(table: &[u64], rows: &[u64], writer: &[u64]) -> Result<(), Answer>
+    requires listed { Listed table.now rows.now }
+    requires writer_value { writer.now ≡ map (writer_of table.now rows.now) rows.now }
+    ensures { Ran (row_tests (map (op_at table.now) rows.now)) result }
+{
+    run(table, rows, rows, RowTest::Kind)?;
+    run(table, rows, rows, RowTest::Span)?;
+    run(table, rows, rows, RowTest::Reopening)?;
+    run(table, rows, writer, RowTest::Twin)?;
+    run(table, rows, writer, RowTest::Orphan)?;
+    run(table, rows, writer, RowTest::Early)
 }
 
 // Whether the i-th row meets no condition of tests 4 to 9.
@@ -181,6 +164,7 @@ fn quiet(table: &[u64], rows: &[u64], writer: &[u64], i: usize) -> bool
     ensures { result ≡ true → Quiet table.now rows.now writer.now i }
 {
     let o = Op::at(table, rows[i] as usize);
+    let w = entry(writer, i) as usize;
     if wrong_kind(o) {
         return false;
     }
@@ -190,14 +174,10 @@ fn quiet(table: &[u64], rows: &[u64], writer: &[u64], i: usize) -> bool
     if reopens(table, rows, o, i) {
         return false;
     }
-    let w = entry(writer, i) as usize;
     if o.is_write() {
         return w >= i;
     }
-    if w < rows.len() {
-        return !o.precedes(Op::at(table, rows[w] as usize));
-    }
-    false
+    w < rows.len() && !o.precedes(Op::at(table, rows[w] as usize))
 }
 
 // Whether no row meets a condition of tests 4 to 9: one pass for a register that passes.
@@ -205,12 +185,10 @@ fn all_quiet(table: &[u64], rows: &[u64], writer: &[u64]) -> bool
     requires { Listed table.now rows.now }
     ensures { result ≡ true → AllQuiet table.now rows.now writer.now }
 {
-    let mut i: usize = 0;
-    while i < rows.len() {
+    for i in 0..rows.len() {
         if !quiet(table, rows, writer, i) {
             return false;
         }
-        i += 1;
     }
     true
 }
@@ -221,14 +199,12 @@ pub fn test_rows(table: &[u64], rows: &[u64], writer: &[u64]) -> Answer
     requires writer_value { writer.now ≡ map (writer_of table.now rows.now) rows.now }
     ensures { result ≡ first_met (row_tests (map (op_at table.now) rows.now)) (passed (length rows.now)) }
 {
-    let none = Answer::passed(rows.len() as u64);
+    let passed = Answer::passed(rows.len() as u64);
     if all_quiet(table, rows, writer) {
-        return none;
+        return passed;
     }
-    let kind = or_test(table, rows, rows, none, RowTest::Kind);
-    let span = or_test(table, rows, rows, kind, RowTest::Span);
-    let again = or_test(table, rows, rows, span, RowTest::Reopening);
-    let twin = or_test(table, rows, writer, again, RowTest::Twin);
-    let orphan = or_test(table, rows, writer, twin, RowTest::Orphan);
-    or_test(table, rows, writer, orphan, RowTest::Early)
+    match run_all(table, rows, writer) {
+        Ok(()) => passed,
+        Err(refusal) => refusal,
+    }
 }

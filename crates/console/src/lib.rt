@@ -2,114 +2,74 @@
 // calls, which std reaches, are assumed.
 #![tactic(auto)]
 
-ghost use Rattle.std.specs.Prelude.{◌≡◌, ◌≤◌, length};
+ghost use Rattle.std.specs.Prelude.{◌≡◌, ◌≤◌, IfOk, IfSome, MatchResult, length};
 ghost use Rattle.io.specs.Counts.{IsPrefixLen};
 ghost use Rattle.parsing.specs.Numbers.{lines_in, stored};
 ghost use Rattle.console.specs.Listings.{listing, Taken};
 
-use parsing::{Count, Number};
 use std::env::{Env, FillError};
 use std::fs;
 use std::fs::Files;
 use std::io::{Print, Read, Stderr};
 
-// How many bytes of an input stand at the front of the buffer, and whether no read failed.
-#[derive(Clone, Copy)]
-pub struct Input {
-    pub sound: bool,
+// A read failed after so many bytes, which stand at the front of the buffer.
+#[derive(Clone, Copy, PartialEq, Eq, Debug)]
+pub struct ReadFailed {
     pub count: usize,
 }
 
-// Reads until the buffer is full, the input ends or a read fails.
-pub fn take<R: Read>(input: &mut R, bytes: &mut [u8]) -> Input
-    ensures { IsPrefixLen result.count bytes.new }
+// Reads until the buffer is full, the input ends or a read fails; how many bytes stand at the front of the buffer then.
+pub fn take<R: Read>(input: &mut R, bytes: &mut [u8]) -> Result<usize, ReadFailed>
+    ensures { MatchResult result (λ n. IsPrefixLen n bytes.new) (λ e. IsPrefixLen e.count bytes.new) }
 {
     let mut done: usize = 0;
+    // A read takes as many bytes as the system likes.
     while done < bytes.len() {
         let Ok(more) = input.read(&mut bytes[done..]) else {
-            return Input {
-                sound: false,
-                count: done,
-            };
+            return Err(ReadFailed { count: done });
         };
-        if more < 1 {
+        if more == 0 {
             break;
         }
         done += more;
     }
-    Input {
-        sound: true,
-        count: done,
-    }
+    Ok(done)
 }
 
 // All of a file that is named, up to the buffer's length. A name that is no UTF-8 text is a file that cannot be read.
-fn take_file<R: Files>(rt: &R, name: &[u8], bytes: &mut [u8]) -> Input
-    ensures { IsPrefixLen result.count bytes.new }
+fn take_file<R: Files>(rt: &R, name: &[u8], bytes: &mut [u8]) -> Option<usize>
+    ensures { IfSome result (λ n. IsPrefixLen n bytes.new) }
 {
-    let Ok(path) = str::from_utf8(name) else {
-        return Input {
-            sound: false,
-            count: 0,
-        };
-    };
-    match fs::open(rt, path) {
-        Ok(file) => {
-            let mut file = file;
-            take(&mut file, bytes)
-        }
-        Err(_) => Input {
-            sound: false,
-            count: 0,
-        },
-    }
+    let path = str::from_utf8(name).ok()?;
+    let mut file = fs::open(rt, path).ok()?;
+    take(&mut file, bytes).ok()
 }
 
-// How many row numbers stand at the front of the list, whether their file could be read, and whether it has a number on each line.
-#[derive(Clone, Copy)]
-pub struct Listing {
-    pub readable: bool,
-    pub sound: bool,
-    pub count: usize,
+// Why a file gives no row numbers: it cannot be read, or a line of it is no number.
+#[derive(Clone, Copy, PartialEq, Eq, Debug)]
+pub enum ListFault {
+    Unreadable,
+    Unsound,
 }
 
-fn listed(bytes: &[u8], list: &mut [u64]) -> Listing
-    ensures within { IsPrefixLen result.count list.new }
+fn listed(bytes: &[u8], list: &mut [u64]) -> Result<usize, ListFault>
+    ensures within { IfOk result (λ n. IsPrefixLen n list.new) }
     ensures answer { result ≡ listing (lines_in (length list.old) bytes.now) }
     ensures list { list.new ≡ stored (lines_in (length list.old) bytes.now) list.old }
 {
-    match parsing::list(bytes, list) {
-        Count::Read(count) => Listing {
-            readable: true,
-            sound: true,
-            count,
-        },
-        Count::NoList => Listing {
-            readable: true,
-            sound: false,
-            count: 0,
-        },
-    }
+    parsing::list(bytes, list).ok_or(ListFault::Unsound)
 }
 
-// The row numbers in the file that an argument names, one a line, as many as the list holds. A line has at most 20 digits, so the numbers of
-// 1,025 lines stand in the first 21,525 bytes.
-pub fn take_rows<R: Env + Files>(rt: &R, place: usize, list: &mut [u64]) -> Listing
-    ensures within { IsPrefixLen result.count list.new }
+// How many row numbers stand at the front of the list: those in the file that an argument names, one a line, as many as the list holds. A line has
+// at most 20 digits, so the numbers of 1,025 lines stand in the first 21,525 bytes.
+pub fn take_rows<R: Env + Files>(rt: &R, place: usize, list: &mut [u64]) -> Result<usize, ListFault>
+    ensures within { IfOk result (λ n. IsPrefixLen n list.new) }
     ensures taken { Taken list.old result list.new }
 {
     let mut name = [0u8; 4096];
     let m = argument(rt, place, &mut name);
     let mut bytes = [0u8; 65536];
-    let got = take_file(rt, &name[..m], &mut bytes);
-    if !got.sound {
-        return Listing {
-            readable: false,
-            sound: false,
-            count: 0,
-        };
-    }
-    let n = got.count;
+    let n = take_file(rt, &name[..m], &mut bytes).ok_or(ListFault::Unreadable)?;
     listed(&bytes[..n], list)
 }
 
@@ -117,24 +77,18 @@ pub fn take_rows<R: Env + Files>(rt: &R, place: usize, list: &mut [u64]) -> List
 fn argument<R: Env>(rt: &R, place: usize, buffer: &mut [u8]) -> usize
     ensures { result ≤ length buffer.new }
 {
-    match rt.arg(place, buffer) {
-        Ok(n) => n,
-        Err(_) => 0,
-    }
+    rt.arg(place, buffer).unwrap_or(0)
 }
 
 // Whether there is an argument at the place. Nothing is promised, as of `number`.
 pub fn is_given<R: Env>(rt: &R, place: usize) -> bool {
     let mut word = [0u8; 1];
-    match rt.arg(place, &mut word) {
-        Err(FillError::NotPresent) => false,
-        _ => true,
-    }
+    !matches!(rt.arg(place, &mut word), Err(FillError::NotPresent))
 }
 
 // The number that an argument is, or that it is none. Nothing is promised: which bytes the system hands in no contract can say, and any number is
 // that of some bytes. What the bytes are worth is the contract of `number_in`.
-pub fn number<R: Env>(rt: &R, place: usize) -> Number {
+pub fn number<R: Env>(rt: &R, place: usize) -> Option<u64> {
     let mut word = [0u8; 32];
     let n = argument(rt, place, &mut word);
     parsing::number_in(&word[..n])

@@ -7,20 +7,18 @@ ghost use Rattle.printing.specs.Texts.{Printed};
 ghost use Rattle.sheet.specs.Sheet.{Shown, Told};
 ghost use Rattle.file_sheets.specs.Files.{bench_of, exam_file};
 
-use history::{Answer, Row};
+use history::Answer;
 
 // The sheet of a register of a history file, or the line of a refused file.
 pub fn bench(bytes: &[u8], register: u64, allowance: u64, out: &mut [u8]) -> Answer
     ensures text { Printed (bench_of bytes.now register allowance) out.old result out.new }
     ensures shown { Shown (table_of bytes.now) register allowance }
 {
-    let mut table = [0u64; Row::LARGEST_TABLE];
-    let read = files::read(bytes, &mut table);
-    if read.code != Answer::FRESH {
-        return printing::refusal(read, out);
-    }
-    let end = read.rows as usize * Row::COLUMNS;
-    sheet::sheet(&table[..end], register, allowance, out)
+    printing::of_file(
+        bytes,
+        out,
+        |table, out| sheet::sheet(table, register, allowance, out),
+    )
 }
 
 // The same with the check of an order.
@@ -29,11 +27,9 @@ pub fn exam(bytes: &[u8], register: u64, k: u64, list: &[u64], out: &mut [u8]) -
     ensures shown { Shown (table_of bytes.now) register most_trials }
     ensures told { Told (table_of bytes.now) register k list.now }
 {
-    let mut table = [0u64; Row::LARGEST_TABLE];
-    let read = files::read(bytes, &mut table);
-    if read.code != Answer::FRESH {
-        return printing::refusal(read, out);
-    }
-    let end = read.rows as usize * Row::COLUMNS;
-    sheet::checked(&table[..end], register, k, list, out)
+    printing::of_file(
+        bytes,
+        out,
+        |table, out| sheet::checked(table, register, k, list, out),
+    )
 }

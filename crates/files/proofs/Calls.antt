@@ -10,7 +10,7 @@ use Rattle.history.specs.declared.Answer.{Answer}
 use Rattle.history.specs.Answer.{first_met, passed}
 use Rattle.records.specs.Records.{begun}
 use Rattle.files.specs.Files.{Whole, file_answer, file_tests, room_test, after, read_tests, read_answer}
-use Rattle.files.proofs.Meeting.{met_stop, met_on}
+use Rattle.history.proofs.Refusals.{met_stop, met_on}
 use Rattle.files.proofs.Passing.{file_coded, code_whole, whole_answer}
 
 -- the lent list, by the answer's code

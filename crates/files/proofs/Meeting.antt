@@ -1,32 +1,15 @@
--- Tests in parts: a refusal stays whatever follows, and where nothing is refused the next part decides.
+-- The code of a run of tests, and the tests of many parts.
 -- Assumes nothing.
 use Prim.Native.Nat.{ℕ}
-use mathlib.Core.Path.{◌≡◌, refl, ◌∙◌}
+use mathlib.Core.Path.{refl}
 use mathlib.Core.Logic.{◌≢◌}
 use mathlib.Core.List.Memᴰ.{head as here}
 use mathlib.Core.List.Memᴰ.{tail as there}
-use mathlib.Core.List.{List, [], ◌∷◌, ◌++◌, flat_map, Memᴰ as In}
-use Rattle.lists.specs.declared.Found.{Found}
-use Rattle.lists.specs.declared.Found.TheVariants.{At, Nothing}
+use mathlib.Core.List.{List, [], ◌∷◌, flat_map, Memᴰ as In}
+use Rattle.std.specs.Prelude.{Option, Some, None}
 use Rattle.history.specs.declared.Answer.{Answer}
 use Rattle.history.specs.Answer.{number, Test, refused_or, first_met}
-use Rattle.history.proofs.Refusals.{NoFault, Coded, no_fault_append, no_fault_left, no_fault_right, code_no_fault, no_fault_answer, met_append}
-
-pub met_kept : (xs : List Test) (a b : Answer) → a.code ≡ 0 → (first_met xs a).code ≢ 0 → first_met xs b ≡ first_met xs a
-unfolding first_met
-met_kept [] a b z n = absurd (n z)
-met_kept (x ∷ xs) a b z n = go x.fault n (met_kept xs a b z)
-  where
-    go : (f : Found) → (refused_or x.code f (first_met xs a)).code ≢ 0 → ((first_met xs a).code ≢ 0 → first_met xs b ≡ first_met xs a) → refused_or x.code f (first_met xs b) ≡ refused_or x.code f (first_met xs a)
-    go (At row) n ih = refl
-    go Nothing n ih = ih n
-
-module _ (xs ys : List Test) (a : Answer) where
-  pub met_stop : a.code ≡ 0 → (first_met xs a).code ≢ 0 → first_met (xs ++ ys) a ≡ first_met xs a
-  met_stop z n = met_append xs ys a ∙ met_kept xs a (first_met ys a) z n
-
-  pub met_on : Coded xs → (first_met xs a).code ≡ 0 → first_met (xs ++ ys) a ≡ first_met ys a
-  met_on c z = met_append xs ys a ∙ no_fault_answer xs (first_met ys a) (code_no_fault xs c a z)
+use Rattle.history.proofs.Refusals.{NoFault, Coded, no_fault_append, no_fault_left, no_fault_right}
 
 -- an answer's code is that of a test, or of the answer where nothing is refused
 pub met_code : (P : ℕ → Type 0) (xs : List Test) (a : Answer) → ((x : Test) → In x xs → P (number x.code)) → P a.code → P (first_met xs a).code
@@ -34,9 +17,9 @@ unfolding first_met
 met_code P [] a h p = p
 met_code P (x ∷ xs) a h p = go x.fault (met_code P xs a (λ y m. h y (there m)) p)
   where
-    go : (f : Found) → P (first_met xs a).code → P (refused_or x.code f (first_met xs a)).code
-    go (At row) q = h x (here refl)
-    go Nothing q = q
+    go : (f : Option ℕ) → P (first_met xs a).code → P (refused_or x.code f (first_met xs a)).code
+    go (Some row) q = h x (here refl)
+    go None q = q
 
 pub coded_in : (xs : List Test) → ((x : Test) → In x xs → number x.code ≢ 0) → Coded xs
 coded_in [] h = tt

@@ -11,7 +11,7 @@ use native.Mathlib.Omega.{arith}
 use borrow.Author.Tests.{not-false, eqb-true, eqb-false, eq-eqb, ne_eqb, ltb-false, le-ltb, leb-false, lt-leb}
 use lib.Dec.{eqb, leb}
 use lib.ListN.{length}
-use Rattle.lists.specs.declared.Found.TheVariants.{At, Nothing}
+use Rattle.std.specs.Prelude.{Some, None}
 use Rattle.lists.specs.Lists.{up_to}
 use Rattle.lists.proofs.Tests.{told_true, told_or, told_eqb, or_false}
 use Rattle.lists.proofs.Members.{first_cons_hit, first_cons_miss, nothing_none, none_nothing}
@@ -19,13 +19,14 @@ use Rattle.lists.proofs.Maps.{in_map, map_in, in_flat}
 use Rattle.lists.proofs.Ranges.{below_in, in_below}
 use Rattle.history.specs.declared.Op.{Op}
 use Rattle.history.specs.Table.{largest_count, cell, operation, op_at, row_count, is_opening, is_write, is_read}
-use Rattle.history.specs.Answer.{number, overfull, strange_record, Test, lowest_row, refused_or, first_met, passed}
+use Rattle.history.specs.Answer.{number, Test, lowest_row, refused_or, first_met, passed}
+use Rattle.history.specs.declared.Code.TheVariants.{Overfull, StrangeRecord}
 use Rattle.history.specs.Screen.{wrong_kind, stray_opening}
-use Rattle.history.proofs.Refusals.{NoFault, Coded, coded_append, no_fault_append, no_fault_left, no_fault_right, code_no_fault, no_fault_answer, if_so_lem, if_not}
+use Rattle.history.proofs.Refusals.{NoFault, Coded, coded_append, no_fault_append, no_fault_left, no_fault_right, code_no_fault, no_fault_answer, if_so_lem, if_not, met_stop}
 use Rattle.records.specs.Records.{field, body_length, begun, offset, record_from, file_of, Stands}
 use Rattle.records.proofs.Records.{least_length}
 use Rattle.files.specs.Files.{Whole, at_record, left, mismatched, record_tests, tests_at, file_tests, file_answer, room_test, read_tests, read_answer, ops_of, write_tests, write_answer}
-use Rattle.files.proofs.Meeting.{met_stop, coded_in, no_fault_flat, flat_no_fault}
+use Rattle.files.proofs.Meeting.{coded_in, no_fault_flat, flat_no_fault}
 
 -- The numbers are at most 1,024 whole rows of a right kind, and no opening has another stamp than 0.
 pub record Tabular (t : List ℕ) : Type 0 where
@@ -59,11 +60,11 @@ known_body size e = go (told_true (told_or (told_eqb size 34) (told_eqb size 18)
     go (inl k) = omega arith
     go (inr k) = omega arith
 
-at_so : (n : ℕ) (b : Bool) → at_record n b ≡ Nothing → b ≡ false
+at_so : (n : ℕ) (b : Bool) → at_record n b ≡ None → b ≡ false
 at_so n true e = let z : ◌≡◌ {A = ℕ} 0 1 = cc in absurd (omega arith)
 at_so n false e = refl
 
-at_not : (n : ℕ) (b : Bool) → b ≡ false → at_record n b ≡ Nothing
+at_not : (n : ℕ) (b : Bool) → b ≡ false → at_record n b ≡ None
 at_not n b e = rw e
 
 -- The codes of the tests at the records: 16, 17 and 2.
@@ -176,7 +177,7 @@ module _ (t : List ℕ) (room : ℕ) where
         ltb-false room (length (file_of t)) (if_so_lem _ h.1.1.1.1.0),
       )
 
-  none : (p : Op → Bool) → ((i : ℕ) → i < row_count t → p (op_at t i) ≡ false) → lowest_row p (ops_of t) ≡ Nothing
+  none : (p : Op → Bool) → ((i : ℕ) → i < row_count t → p (op_at t i) ≡ false) → lowest_row p (ops_of t) ≡ None
   unfolding ops_of
   none p h = none_nothing (λ o. o.row) p (ops_of t) (λ o m. let k = in_map (op_at t) (up_to (row_count t)) m in rw k.2 (h k.0 (in_below (row_count t) k.1)))
 
@@ -213,13 +214,13 @@ kind_test bs n at size kind b s e h = rw (← e, ← s) h
 -- at a record of a known length that is all there, the kind and the record's number are left
 pub past_length : (bs : List ℕ) (n at rows : ℕ) → left bs at ≢ 1 → not (eqb (field bs at 2) 34 || eqb (field bs at 2) 18) ≡ false → 2 + field bs at 2 ≤ left bs at →
     first_met (record_tests bs n at) (passed rows)
-    ≡ refused_or strange_record (at_record at (mismatched (field bs at 2) (operation (record_from bs at) n))) (refused_or overfull (at_record at (leb largest_count n)) (passed rows))
+    ≡ refused_or StrangeRecord (at_record at (mismatched (field bs at 2) (operation (record_from bs at) n))) (refused_or Overfull (at_record at (leb largest_count n)) (passed rows))
 unfolding first_met record_tests
 past_length bs n at rows one known long = rw (ne_eqb (left bs at) 1 one, known, le-ltb (left bs at) (2 + field bs at 2) long)
 
 -- A test of a row as the code makes it.
 module _ (p : Op → Bool) (t : List ℕ) (i : ℕ) (r : List ℕ) where
-  pub row_hit : p (op_at t i) ≡ true → lowest_row p (map (op_at t) (i ∷ r)) ≡ At i
+  pub row_hit : p (op_at t i) ≡ true → lowest_row p (map (op_at t) (i ∷ r)) ≡ Some i
   unfolding op_at
   row_hit h = first_cons_hit p (op_at t i) (map (op_at t) r) (λ o. o.row) h
 

@@ -13,7 +13,8 @@ use Rattle.lists.proofs.Tests.{and_true}
 use Rattle.history.specs.declared.Row.{Row}
 use Rattle.history.specs.declared.Op.{Op}
 use Rattle.history.specs.Table.{largest_count, row_at, row_count, operation, op_at, is_opening}
-use Rattle.history.specs.Answer.{number, short_list, passed}
+use Rattle.history.specs.Answer.{number, passed}
+use Rattle.history.specs.declared.Code.TheVariants.{ShortList}
 use Rattle.history.specs.Screen.{wrong_kind, stray_opening}
 use Rattle.records.specs.Records.{field, Bytes, Words, begun, offset, record_from, record_at, cells, table_of, file_of}
 use Rattle.records.proofs.Blocks.{blocks_whole}
@@ -118,12 +119,12 @@ pub read_long : (bs table : List ℕ) → (read_answer bs table).code ≡ 0 → 
 read_long bs table z = let w = read_whole bs table z in (length_table bs, w.0.few, w.1)
 
 -- A file's own tests never give the code of a short list.
-pub file_fits : (bs : List ℕ) → (file_answer bs).code ≢ number short_list
+pub file_fits : (bs : List ℕ) → (file_answer bs).code ≢ number ShortList
 file_fits bs =
     met_code (λ c. c ≢ 10) (file_tests bs) (passed (begun bs)) (file_codes (λ c. c ≢ 10) (λ e. omega arith) (λ e. omega arith) (λ e. omega arith) bs) (λ e. omega arith)
 
 -- A table of 5,120 places is never too short, and its contents and length do not matter.
-pub read_fits : (bs table : List ℕ) → 5120 ≤ length table → (read_answer bs table).code ≢ number short_list
+pub read_fits : (bs table : List ℕ) → 5120 ≤ length table → (read_answer bs table).code ≢ number ShortList
 read_fits bs table h = rw (read_room bs table h) (file_fits bs)
 
 pub read_same : (bs table other : List ℕ) → 5120 ≤ length table → 5120 ≤ length other → read_answer bs table ≡ read_answer bs other

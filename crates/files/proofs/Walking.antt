@@ -11,13 +11,12 @@ use Rattle.lists.proofs.Scans.{Scan, scan_none, scan_hit, scan_more, scan_end}
 use Rattle.history.specs.declared.Answer.{Answer}
 use Rattle.history.specs.Table.{largest_count}
 use Rattle.history.specs.Answer.{first_met, passed}
-use Rattle.history.proofs.Refusals.{code_no_fault, no_fault_answer}
+use Rattle.history.proofs.Refusals.{code_no_fault, no_fault_answer, met_kept, met_stop, met_on}
 use Rattle.records.specs.Records.{next, begun, offset, Walked, record_from, record_at, cells, table_of, Stands}
 use Rattle.records.proofs.Blocks.{length_blocks}
 use Rattle.records.proofs.Offsets.{walked_none, walked_in, walked_here, walked_more, walked_end}
 use Rattle.files.specs.Files.{Whole, record_tests, tests_at, file_tests, file_answer}
 use Rattle.files.proofs.Filling.{Filling, fill_none, fill_long, fill_more, fill_end}
-use Rattle.files.proofs.Meeting.{met_kept, met_stop, met_on}
 use Rattle.files.proofs.Passing.{Passes, passes, passed_tests, record_coded}
 
 -- The first i records passed, and the one at `at` is next: the answer of the whole is the answer from here on.

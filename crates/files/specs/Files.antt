@@ -1,20 +1,19 @@
 -- Reading and writing a history file: the tests, the answer and what lies in the lent buffer afterwards (document 01, "Files, program, C host").
 -- Assumes nothing.
-use Rattle.std.specs.Prelude.{ℕ, ◌+◌, ◌*◌, ◌-◌, ◌%◌, ◌≤◌, ◌<◌, ◌≡◌, Bool, false, cond, not, ◌||◌, ltb, leb, eqb, length, drop}
+use Rattle.std.specs.Prelude.{ℕ, ◌+◌, ◌*◌, ◌-◌, ◌%◌, ◌≤◌, ◌<◌, ◌≡◌, Bool, false, cond, not, ◌||◌, ltb, leb, eqb, length, drop, Option, Some, None}
 use mathlib.Core.List.{List, [], ◌∷◌, ◌++◌, map, flat_map}
-use Rattle.lists.specs.declared.Found.{Found}
-use Rattle.lists.specs.declared.Found.TheVariants.{At, Nothing}
 use Rattle.lists.specs.Lists.{up_to}
 use Rattle.history.specs.declared.Answer.{Answer}
 use Rattle.history.specs.declared.Op.{Op}
 use Rattle.history.specs.Table.{largest_count, operation, op_at, row_count}
-use Rattle.history.specs.Answer.{ragged, overfull, bad_kind, bad_span, short_list, cut_record, strange_record, Test, test, if_so, lowest_row, first_met, passed}
+use Rattle.history.specs.Answer.{Test, test, if_so, lowest_row, first_met, passed}
+use Rattle.history.specs.declared.Code.TheVariants.{Ragged, Overfull, BadKind, BadSpan, ShortList, CutRecord, StrangeRecord}
 use Rattle.history.specs.Screen.{wrong_kind, stray_opening}
 use Rattle.records.specs.Records.{field, body_length, begun, offset, record_from, record_at, table_of, file_of, Stands}
 
 -- A condition on the record at an offset, which is the row field (01's table, 16 and 17).
-abbrev pub at_record : ℕ → Bool → Found
-at_record at b = cond b (At at) Nothing
+abbrev pub at_record : ℕ → Bool → Option ℕ
+at_record at b = cond b (Some at) None
 
 -- The bytes from an offset on.
 abbrev pub left : List ℕ → ℕ → ℕ
@@ -28,11 +27,11 @@ mismatched size o = wrong_kind o || not (eqb size (body_length o.kind))
 -- length, and 17 covers the rest").
 unfoldable pub record_tests : List ℕ → ℕ → ℕ → List Test
 record_tests bs n at =
-    test cut_record (at_record at (eqb (left bs at) 1))
-    ∷ test strange_record (at_record at (not (eqb (field bs at 2) 34 || eqb (field bs at 2) 18)))
-    ∷ test cut_record (at_record at (ltb (left bs at) (2 + field bs at 2)))
-    ∷ test strange_record (at_record at (mismatched (field bs at 2) (operation (record_from bs at) n)))
-    ∷ test overfull (at_record at (leb largest_count n))
+    test CutRecord (at_record at (eqb (left bs at) 1))
+    ∷ test StrangeRecord (at_record at (not (eqb (field bs at 2) 34 || eqb (field bs at 2) 18)))
+    ∷ test CutRecord (at_record at (ltb (left bs at) (2 + field bs at 2)))
+    ∷ test StrangeRecord (at_record at (mismatched (field bs at 2) (operation (record_from bs at) n)))
+    ∷ test Overfull (at_record at (leb largest_count n))
     ∷ []
 
 -- Those of each record that begins (01, "Reading tests at each record, in sequence").
@@ -54,7 +53,7 @@ pub record Whole (bs : List ℕ) : Type 0 where
 
 -- The lent buffer has fewer places than the result (01's table, 10).
 abbrev pub room_test : ℕ → ℕ → Test
-room_test needed room = test short_list (if_so (ltb room needed))
+room_test needed room = test ShortList (if_so (ltb room needed))
 
 -- A lent list after a call: the result at its front where the code is 0, else as it was (01, "A refused reading or writing changes nothing").
 abbrev pub after : Answer → List ℕ → List ℕ → List ℕ
@@ -76,14 +75,14 @@ ops_of t = map (op_at t) (up_to (row_count t))
 
 -- The last two tests of a table that is to be written: an opening with another stamp than 0, then the room (02, W-207).
 abbrev pub last_tests : List ℕ → ℕ → List Test
-last_tests t room = test bad_span (lowest_row stray_opening (ops_of t)) ∷ room_test (length (file_of t)) room ∷ []
+last_tests t room = test BadSpan (lowest_row stray_opening (ops_of t)) ∷ room_test (length (file_of t)) room ∷ []
 
 -- Writing into a buffer of some places (01, "Writing tests 1, 2, 4 over every row, then 10"; 02, W-207, "a 5, in writing files too, after 4").
 unfoldable pub write_tests : List ℕ → ℕ → List Test
 write_tests t room =
-    test ragged (if_so (not (eqb (length t % 5) 0)))
-    ∷ test overfull (if_so (ltb largest_count (row_count t)))
-    ∷ test bad_kind (lowest_row wrong_kind (ops_of t))
+    test Ragged (if_so (not (eqb (length t % 5) 0)))
+    ∷ test Overfull (if_so (ltb largest_count (row_count t)))
+    ∷ test BadKind (lowest_row wrong_kind (ops_of t))
     ∷ last_tests t room
 
 unfoldable pub write_answer : List ℕ → List ℕ → Answer

@@ -8,8 +8,7 @@ ghost use Rattle.history.specs.Screen.{wrong_kind, stray_opening};
 ghost use Rattle.records.specs.Records.{body_length, begun, table_of, file_of};
 ghost use Rattle.files.specs.Files.{Whole, record_tests, file_answer, room_test, read_answer, read_table, ops_of, last_tests, write_tests, write_answer, write_bytes, WritesBack, ReadsBack};
 
-use history::{Answer, Op, Row};
-use lists::Found;
+use history::{Answer, Code, Kind, Op, Row};
 
 // No record is longer than 36 bytes: in a file of so many bytes 1,024 leave room for a whole one, so that a longer file need not be looked at.
 pub const LONGEST: usize = 36900;
@@ -17,33 +16,21 @@ pub const LONGEST: usize = 36900;
 fn wrong_kind(kind: u64) -> bool
     ensures { result ≡ not (eqb kind 1 || eqb kind 3 || eqb kind 2) }
 {
-    if kind == Op::WRITE {
-        return false;
-    }
-    if kind == Op::OPENING {
-        return false;
-    }
-    kind != Op::READ
+    kind != Kind::Write as u64 && kind != Kind::Opening as u64 && kind != Kind::Read as u64
 }
 
 // A length that no record has.
 fn wrong_length(size: u64) -> bool
     ensures { result ≡ not (eqb size 34 || eqb size 18) }
 {
-    if size == records::BODY {
-        return false;
-    }
-    size != records::SHORT_BODY
+    size != records::BODY && size != records::SHORT_BODY
 }
 
 // A kind that does not go with the length.
 fn mismatched(size: u64, kind: u64) -> bool
     ensures { result ≡ (not (eqb kind 1 || eqb kind 3 || eqb kind 2) || not (eqb size (body_length kind))) }
 {
-    if wrong_kind(kind) {
-        return true;
-    }
-    size != records::body_length(kind)
+    wrong_kind(kind) || size != records::body_length(kind)
 }
 
 // The tests at record `row`, which begins at a place in the bytes; code 0 where none is met.
@@ -53,20 +40,20 @@ fn inspect_record(bytes: &[u8], row: usize, at: usize) -> Answer
 {
     let left = bytes.len() - at;
     if left == 1 {
-        return Answer::refused(Answer::CUT_RECORD, at as u64);
+        return Code::CutRecord.at(at as u64);
     }
     let size = records::two(bytes, at);
     if wrong_length(size) {
-        return Answer::refused(Answer::STRANGE_RECORD, at as u64);
+        return Code::StrangeRecord.at(at as u64);
     }
     if left < 2 + size as usize {
-        return Answer::refused(Answer::CUT_RECORD, at as u64);
+        return Code::CutRecord.at(at as u64);
     }
     if mismatched(size, records::two(bytes, at + 2)) {
-        return Answer::refused(Answer::STRANGE_RECORD, at as u64);
+        return Code::StrangeRecord.at(at as u64);
     }
     if Row::LARGEST_COUNT <= row {
-        return Answer::refused(Answer::OVERFULL, at as u64);
+        return Code::Overfull.at(at as u64);
     }
     Answer::passed(0)
 }
@@ -77,9 +64,10 @@ pub fn inspect(bytes: &[u8]) -> Answer
 {
     let mut i = 0;
     let mut at = 0;
+    // The next record begins where the length of this one says.
     while at < bytes.len() {
         let found = inspect_record(bytes, i, at);
-        if found.code != Answer::FRESH {
+        if found.code != 0 {
             return found;
         }
         at = records::next(bytes, at);
@@ -93,7 +81,7 @@ pub fn room_for(rows: usize, needed: usize, room: usize) -> Answer
     ensures { result ≡ first_met (room_test needed room ∷ []) (passed rows) }
 {
     if room < needed {
-        return Answer::refused(Answer::SHORT_LIST, 0);
+        return Code::ShortList.at(0);
     }
     Answer::passed(rows as u64)
 }
@@ -106,6 +94,7 @@ fn read_rows(bytes: &[u8], table: &mut [u64])
 {
     let mut i = 0;
     let mut at = 0;
+    // The next record begins where the length of this one says.
     while at < bytes.len() {
         records::read_row(bytes, at, table, i);
         at = records::next(bytes, at);
@@ -119,12 +108,12 @@ pub fn read(bytes: &[u8], table: &mut [u64]) -> Answer
     ensures undone { result.code ≡ 0 → WritesBack bytes.now }
 {
     let found = inspect(bytes);
-    if found.code != Answer::FRESH {
+    if found.code != 0 {
         return found;
     }
     let rows = found.rows as usize;
     let answer = room_for(rows, rows * Row::COLUMNS, table.len());
-    if answer.code != Answer::FRESH {
+    if answer.code != 0 {
         return answer;
     }
     read_rows(bytes, table);
@@ -132,45 +121,36 @@ pub fn read(bytes: &[u8], table: &mut [u64]) -> Answer
 }
 
 // The lowest row of a wrong kind, whatever its register.
-fn lowest_wrong(table: &[u64]) -> Found
+fn lowest_wrong(table: &[u64]) -> Option<usize>
     ensures { result ≡ lowest_row wrong_kind (ops_of table.now) }
 {
-    let n = table.len() / Row::COLUMNS;
-    let mut i = 0;
-    while i < n {
+    for i in 0..table.len() / Row::COLUMNS {
         if wrong_kind(table[i * Row::COLUMNS + Row::KIND]) {
-            return Found::At(i);
+            return Some(i);
         }
-        i += 1;
     }
-    Found::Nothing
+    None
 }
 
 // The lowest row of an opening with another stamp than 0, whatever its register.
-fn lowest_stray(table: &[u64]) -> Found
+fn lowest_stray(table: &[u64]) -> Option<usize>
     ensures { result ≡ lowest_row stray_opening (ops_of table.now) }
 {
-    let n = table.len() / Row::COLUMNS;
-    let mut i = 0;
-    while i < n {
+    for i in 0..table.len() / Row::COLUMNS {
         if Op::at(table, i).strays() {
-            return Found::At(i);
+            return Some(i);
         }
-        i += 1;
     }
-    Found::Nothing
+    None
 }
 
 // The bytes of a table's file: the sum of the records' own lengths.
 fn file_length(table: &[u64]) -> usize
     ensures { result ≡ length (file_of table.now) }
 {
-    let n = table.len() / Row::COLUMNS;
     let mut total = 0;
-    let mut i = 0;
-    while i < n {
+    for i in 0..table.len() / Row::COLUMNS {
         total += 2 + records::body_length(table[i * Row::COLUMNS + Row::KIND]) as usize;
-        i += 1;
     }
     total
 }
@@ -180,8 +160,8 @@ fn examine_stamps(table: &[u64], room: usize) -> Answer
     ensures { result ≡ first_met (last_tests table.now room) (passed (row_count table.now)) }
 {
     match lowest_stray(table) {
-        Found::At(row) => Answer::refused(Answer::BAD_SPAN, row as u64),
-        Found::Nothing => room_for(table.len() / Row::COLUMNS, file_length(table), room),
+        Some(row) => Code::BadSpan.at(row as u64),
+        None => room_for(table.len() / Row::COLUMNS, file_length(table), room),
     }
 }
 
@@ -190,14 +170,14 @@ fn examine(table: &[u64], room: usize) -> Answer
     ensures { result ≡ first_met (write_tests table.now room) (passed (row_count table.now)) }
 {
     if table.len() % Row::COLUMNS != 0 {
-        return Answer::refused(Answer::RAGGED, 0);
+        return Code::Ragged.at(0);
     }
     if Row::LARGEST_COUNT < table.len() / Row::COLUMNS {
-        return Answer::refused(Answer::OVERFULL, 0);
+        return Code::Overfull.at(0);
     }
     match lowest_wrong(table) {
-        Found::At(row) => Answer::refused(Answer::BAD_KIND, row as u64),
-        Found::Nothing => examine_stamps(table, room),
+        Some(row) => Code::BadKind.at(row as u64),
+        None => examine_stamps(table, room),
     }
 }
 
@@ -206,12 +186,9 @@ fn write_rows(table: &[u64], bytes: &mut [u8])
     requires { length (file_of table.now) ≤ length bytes.old }
     ensures { bytes.new ≡ file_of table.now ++ drop (length (file_of table.now)) bytes.old }
 {
-    let n = table.len() / Row::COLUMNS;
-    let mut i = 0;
     let mut at = 0;
-    while i < n {
+    for i in 0..table.len() / Row::COLUMNS {
         at = records::write_row(table, i, bytes, at);
-        i += 1;
     }
 }
 
@@ -221,7 +198,7 @@ pub fn write(table: &[u64], bytes: &mut [u8]) -> Answer
     ensures undone { result.code ≡ 0 → ReadsBack table.now }
 {
     let answer = examine(table, bytes.len());
-    if answer.code != Answer::FRESH {
+    if answer.code != 0 {
         return answer;
     }
     write_rows(table, bytes);

@@ -2,20 +2,19 @@
 -- Assumes nothing.
 use Prim.Native.Nat.{ℕ, ◌-◌, ◌≤◌, ◌<◌}
 use mathlib.Core.Path.{◌≡◌, refl, sym, ◌∙◌}
-use mathlib.Core.Bool.{Bool, true, false, cond}
+use mathlib.Core.Bool.{true, false}
 use mathlib.Core.Logic.{◌⊎◌, inl, inr, ◌≢◌}
 use mathlib.Core.List.{List}
 use native.Mathlib.Omega.{arith}
 use lib.ListN.{length, get_or, set, length-set}
 use lib.Seq.{get_or-set_same, get_or-set_other}
 use lib.Dec.{eqb}
-use borrow.Author.Tests.{eqb-true, eqb-false, eq-eqb, ne_eqb}
-use Rattle.lists.proofs.Tests.{both, test}
+use borrow.Author.Tests.{eqb-true, ne_eqb}
+use Rattle.lists.proofs.Tests.{both}
 use Rattle.positions.specs.Places.{latest}
 use Rattle.positions.specs.Columns.{mine, read_of, Linked}
 use Rattle.positions.proofs.Places.{below}
 use Rattle.positions.proofs.Latest.{latest_le, latest_none, latest_at}
-use Rattle.freeing.specs.Marks.{Dyed}
 
 -- the reads of w from k on have the mark m, and k is 0 or one more than a read of w
 pub record Dyeing (writer : List ℕ) (w m k : ℕ) (old marks : List ℕ) : Type 0 where
@@ -75,17 +74,3 @@ module _ (writer last prev : List ℕ) (w : ℕ) (p : Linked writer last prev) (
               let h = latest_le (read_of writer w) (k - 1) in
               get_or-set_other marks (k - 1) j m 0 (λ i. omega (arith, h)) ∙ g.kept j (inl (omega (arith, h)))
           keeps j (inr c) = get_or-set_other marks (k - 1) j m 0 (λ i. both (rw i (g.link some)) c) ∙ g.kept j (inr c)
-
-    pub dye_end : k ≡ 0 → Dyed writer w m old (set marks w m)
-    dye_end z j h = go (test (eqb j w))
-      where
-        others : (b : Bool) → mine writer w j ≡ b → j ≢ w → get_or marks j 0 ≡ cond b m (get_or old j 0)
-        others true q d = g.done j (omega arith) h (other_read writer w j d q)
-        others false q d = g.kept j (inr (rw q refl))
-
-        go : (eqb j w ≡ true) ⊎ (eqb j w ≡ false) → get_or (set marks w m) j 0 ≡ cond (mine writer w j) m (get_or old j 0)
-        go (inl q) =
-            let i : j ≡ w = eqb-true j w q in
-            let r : w < length marks = omega (arith, g.long) in
-            rw (i, get_or-set_same marks w m 0, e, eq-eqb w w refl)
-        go (inr q) = let d = eqb-false j w q in get_or-set_other marks w j m 0 d ∙ others (mine writer w j) refl d

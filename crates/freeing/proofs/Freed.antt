@@ -19,8 +19,8 @@ use Rattle.positions.specs.Places.{upto}
 use Rattle.positions.specs.Columns.{Cols, size, wr, Sound, op, ops, Of}
 use Rattle.positions.proofs.Places.{upto_ext, upto_stop, upto_length}
 use Rattle.positions.proofs.Ops.{keep_ops}
-use Rattle.positions.proofs.Columns.{same_is}
-use Rattle.placing.specs.States.{State, is_free, left, laid, state_of, Holds, Whose, Shrinks}
+use Rattle.positions.proofs.OfHistory.{same_is}
+use Rattle.placing.specs.States.{State, is_free, left, laid, state_of, Holds, Whose}
 use Rattle.zones.proofs.Zone.{all_ops}
 use Rattle.freeing.specs.Marks.{unlisted, Writes, Painted}
 use Rattle.freeing.specs.Freed.{Shut, Within, Topped, clusters_of, Freed}
@@ -42,23 +42,6 @@ module _ (writer list : List ℕ) where
       go j l (inl e) (inl f) = absurd (both e (h j l f))
       go j l (inl e) (inr f) = let q : get_or placed j 0 ≡ get_or old j 0 = p j l ∙ rw e in ap (λ (x : ℕ). eqb x 0) q ∙ f ∙ sym (ap not e)
       go j l (inr e) f = let q : get_or placed j 0 ≡ 0 = p j l ∙ rw e in ap (λ (x : ℕ). eqb x 0) q ∙ sym (ap not e)
-
-  -- what is placed of it stays within it
-  pub freed_within : (s : State) → Freed writer list s → (placed : List ℕ) → Shrinks (length writer) s.placed placed → Within writer list placed
-  freed_within s f placed h j l e = go (test (unlisted list (get_or writer j 0)))
-    where
-      go : (unlisted list (get_or writer j 0) ≡ true) ⊎ (unlisted list (get_or writer j 0) ≡ false) → unlisted list (get_or writer j 0) ≡ false
-      go (inl q) = absurd (both (h j l e) (f.free j l ∙ ap not q))
-      go (inr q) = q
-
-  -- shut again
-  pub within_shut : (old placed : List ℕ) → Within writer list old → Painted writer list 1 old placed → Shut (length writer) placed
-  within_shut old placed h p j l = go (test (unlisted list (get_or writer j 0))) (test (is_free old j))
-    where
-      go : (unlisted list (get_or writer j 0) ≡ true) ⊎ (unlisted list (get_or writer j 0) ≡ false) → (is_free old j ≡ true) ⊎ (is_free old j ≡ false) → is_free placed j ≡ false
-      go (inl e) (inl f) = absurd (both e (h j l f))
-      go (inl e) (inr f) = let q : get_or placed j 0 ≡ get_or old j 0 = p j l ∙ rw e in ap (λ (x : ℕ). eqb x 0) q ∙ f
-      go (inr e) f = let q : get_or placed j 0 ≡ 1 = p j l ∙ rw e in ap (λ (x : ℕ). eqb x 0) q
 
   module _ (s : State) (f : Freed writer list s) where
     -- a listed write is to be placed

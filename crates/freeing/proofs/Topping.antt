@@ -10,17 +10,24 @@ use mathlib.Core.List.{List, [], ◌∷◌, ◌++◌, Memᴰ as In}
 use native.Mathlib.Omega.{arith}
 use native.Mathlib.Numerals.{add-one}
 use lib.ListN.{length, get_or, take}
-use lib.Seq.{take_all, take-suc}
+use lib.Seq.{take-suc}
 use lib.Dec.{eqb}
 use borrow.Author.Tests.{eqb-true, eqb-false, eq-eqb}
 use Rattle.lists.proofs.Tests.{both, test}
 use Rattle.positions.specs.Columns.{read_of, Linked}
 use Rattle.positions.proofs.Places.{below}
 use Rattle.positions.proofs.Latest.{latest_le, latest_none}
-use Rattle.freeing.specs.Marks.{unlisted, Writes, Highest, Above}
+use Rattle.freeing.specs.Marks.{unlisted, Writes, Above}
 use Rattle.freeing.specs.Freed.{Topped}
 use Rattle.freeing.proofs.Listing.{in_listed}
 use Rattle.freeing.proofs.Dyeing.{other_read}
+
+-- r is the highest of a bound, a write's place plus one, and a read's place plus one
+pub record Highest (top w read r : ℕ) : Type 0 where
+  pub bound : top ≤ r
+  pub write : w < r
+  pub last : read ≤ r
+  pub least : (n : ℕ) → top ≤ n → w < n → read ≤ n → r ≤ n
 
 pub highest : (top w read s r : ℕ) → s ≡ max top (w + 1) → r ≡ max s read → Highest top w read r
 highest top w read s r e f = record { bound = omega arith; write = omega arith; last = omega arith; least = λ n a b c. omega arith }
@@ -43,29 +50,22 @@ pub record Topping (last list : List ℕ) (top i t : ℕ) : Type 0 where
   pub within : i ≤ length list
   pub above : Above last (take i list) top t
 
-module _ (last list : List ℕ) (top : ℕ) where
-  pub top_none : Topping last list top 0 top
-  top_none = record { within = omega arith; above = record { bound = omega arith; each = λ w m. elim m [ ]; least = λ n k q. k } }
+module _ (last list : List ℕ) (top i t : ℕ) (g : Topping last list top i t) where
+  pub top_on : i < length list → (r : ℕ) → Highest t (get_or list i 0) (get_or last (get_or list i 0) 0) r → Topping last list top (i + 1) r
+  top_on h r k = record { within = omega arith; above = rw next (above_both last (take i list) (w ∷ []) top t r g.above one) }
+    where
+      w : ℕ
+      w = get_or list i 0
 
-  module _ (i t : ℕ) (g : Topping last list top i t) where
-    pub top_end : length list ≤ i → Above last list top t
-    top_end h = rw (take_all i list h) at g.above
+      next : take (i + 1) list ≡ take i list ++ (w ∷ [])
+      next = rw (add-one i) (take-suc list i 0 h)
 
-    pub top_on : i < length list → (r : ℕ) → Highest t (get_or list i 0) (get_or last (get_or list i 0) 0) r → Topping last list top (i + 1) r
-    top_on h r k = record { within = omega arith; above = rw next (above_both last (take i list) (w ∷ []) top t r g.above one) }
-      where
-        w : ℕ
-        w = get_or list i 0
+      each : (x : ℕ) → In x (w ∷ []) → (x < r) × (get_or last x 0 ≤ r)
+      each x (here e) = rw e (k.write, k.last)
+      each x (Memᴰ.tail x5) = elim x5 [ ]
 
-        next : take (i + 1) list ≡ take i list ++ (w ∷ [])
-        next = rw (add-one i) (take-suc list i 0 h)
-
-        each : (x : ℕ) → In x (w ∷ []) → (x < r) × (get_or last x 0 ≤ r)
-        each x (here e) = rw e (k.write, k.last)
-        each x (Memᴰ.tail x5) = elim x5 [ ]
-
-        one : Above last (w ∷ []) t r
-        one = record { bound = k.bound; each = each; least = λ n a q. let y = q w (here refl) in k.least n a y.0 y.1 }
+      one : Above last (w ∷ []) t r
+      one = record { bound = k.bound; each = each; least = λ n a q. let y = q w (here refl) in k.least n a y.0 y.1 }
 
 module _ (writer last prev : List ℕ) (p : Linked writer last prev) (list : List ℕ) (k : Writes writer list) (r : ℕ) (g : Above last list 0 r) where
   -- nothing of the clusters is from the bound on

@@ -21,13 +21,6 @@ Dyed writer w m old marks = (j : ℕ) → j < length writer → get_or marks j 0
 abbrev pub Painted : List ℕ → List ℕ → ℕ → List ℕ → List ℕ → Type 0
 Painted writer list m old marks = (j : ℕ) → j < length writer → get_or marks j 0 ≡ cond (unlisted list (get_or writer j 0)) (get_or old j 0) m
 
--- r is the highest of a bound, a write's place plus one, and a read's place plus one
-pub record Highest (top w read r : ℕ) : Type 0 where
-  pub bound : top ≤ r
-  pub write : w < r
-  pub last : read ≤ r
-  pub least : (n : ℕ) → top ≤ n → w < n → read ≤ n → r ≤ n
-
 -- r is above the listed writes and their last reads, and no higher than it must be
 pub record Above (last list : List ℕ) (top r : ℕ) : Type 0 where
   pub bound : top ≤ r

@@ -11,7 +11,7 @@ use Rattle.lists.specs.Sorts.{sort}
 use Rattle.lists.proofs.Images.{get_d_map, sort_map, sort_ext}
 use Rattle.history.specs.Table.{row_count}
 use Rattle.lists.proofs.Ranges.{from_length, from_at, in_below, at_each}
-use Rattle.lists.proofs.Filled.{Filled, filled_none, filled_more, filled_end}
+use Rattle.lists.proofs.Filled.{Filled, filled_more, filled_end}
 use Rattle.sorting.specs.Keys.{rises}
 use Rattle.grouping.specs.Registers.{register_at, register_column, distinct, registers}
 use Rattle.grouping.specs.Grouped.{no_higher, by_register, Grouped}
@@ -26,9 +26,6 @@ module _ (t keys₀ : List ℕ) (long : length keys₀ ≡ row_count t) where
   -- the first i rows are done
   abbrev pub Keyed : ℕ → List ℕ → Type 0
   Keyed i keys = Filled (register_at t) (up_to n) keys₀ i keys
-
-  pub keyed_none : Keyed 0 keys₀
-  keyed_none = filled_none _ _ _ keys_long
 
   pub keyed_more : (i v : ℕ) (keys : List ℕ) → i < n → v ≡ register_at t i → Keyed i keys → Keyed (i + 1) (set keys i v)
   keyed_more i v keys h e f =

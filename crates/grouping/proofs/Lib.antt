@@ -1,6 +1,5 @@
--- The laws of the registers of a table, of its rows by register, and of the loops.
+-- The laws of the registers of a table, and of its rows by register.
 pub mod Runs
 pub mod Columns
 pub mod Rows
 pub mod Ascending
-pub mod Entries

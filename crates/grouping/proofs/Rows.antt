@@ -1,7 +1,7 @@
 -- The rows of a register stand together among the rows by register: where they begin, and how far they go.
 -- Assumes nothing.
 use Prim.Native.Nat.{ℕ, ◌+◌, ◌*◌, ◌≤◌, ◌<◌}
-use mathlib.Core.Path.{◌≡◌, refl, sym, ap, ap₂, ◌∙◌}
+use mathlib.Core.Path.{◌≡◌, sym, ap, ap₂, ◌∙◌}
 use mathlib.Core.Logic.{◌≢◌}
 use mathlib.Core.Bool.{Bool, true, false}
 use mathlib.Core.List.{List, [], ◌∷◌, ◌++◌, append-nil, Memᴰ as In}
@@ -96,22 +96,12 @@ module _ (t rows : List ℕ) (register : ℕ) where
     pub below : (k : ℕ) → k < low → register_of t rows k < register
     pub behind : (k : ℕ) → high ≤ k → k < length rows → register ≤ register_of t rows k
 
-  pub seeking_none : Seeking 0 (length rows)
-  seeking_none = record { ordered = omega arith; within = omega arith; below = λ k h. absurd (omega arith); behind = λ k h g. absurd (omega arith) }
-
-  pub seeking_end : (low high : ℕ) → high ≤ low → Seeking low high → Sought t rows register low
-  seeking_end low high h s =
-      record { within = omega (arith, s.within, s.ordered); below = s.below; behind = λ k i j. s.behind k (omega (arith, i)) j }
-
   module _ (from : ℕ) (list₀ : List ℕ) where
     pub record Running (m : ℕ) (list : List ℕ) : Type 0 where
       pub within : from + m ≤ length rows
       pub long : length list ≡ length list₀
       pub front : take m list ≡ take m (drop from rows)
       pub has : (k : ℕ) → k < m → register_of t rows (from + k) ≡ register
-
-    pub running_none : from ≤ length rows → Running 0 list₀
-    running_none h = record { within = omega arith; long = refl; front = refl; has = λ k i. absurd (omega arith) }
 
     pub running_more : (m : ℕ) (list : List ℕ) → from + m < length rows → m < length list → register_of t rows (from + m) ≡ register → Running m list →
         Running (m + 1) (set list m (get_or rows (from + m) 0))
@@ -130,9 +120,6 @@ module _ (t rows : List ℕ) (register : ℕ) where
       where
         each : (k : ℕ) → k < m + 1 → register_of t rows (from + k) ≡ register
         each k i = elim (dec_lt k m) [ yes l ↦ r.has k l | no n ↦ let z : k ≡ m = omega arith in rw z q ]
-
-    pub running_end : (m : ℕ) (list : List ℕ) → (from + m < length rows → register_of t rows (from + m) ≢ register) → Running m list → Run t rows register from m list
-    running_end m list h r = record { within = r.within; front = r.front; has = r.has; ends = h }
 
 module _ (t rows : List ℕ) (e : rows ≡ by_register t) where
   -- there are as many of them as the table has rows, each one of it

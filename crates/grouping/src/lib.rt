@@ -13,11 +13,8 @@ fn column(table: &[u64], keys: &mut [u64])
     requires { length keys.old ≡ row_count table.now }
     ensures { keys.new ≡ register_column table.now }
 {
-    let n = table.len() / Row::COLUMNS;
-    let mut i: usize = 0;
-    while i < n {
-        keys[i] = register_at(table, i);
-        i += 1;
+    for (i, key) in keys.iter_mut().enumerate() {
+        *key = register_at(table, i);
     }
 }
 
@@ -44,8 +41,9 @@ fn seek(table: &[u64], grouped: &[u64], register: u64) -> usize
     requires { grouped.now ≡ by_register table.now }
     ensures { Sought table.now grouped.now register result }
 {
-    let mut low: usize = 0;
+    let mut low = 0;
     let mut high = grouped.len();
+    // `partition_point` asks its test of every number, and only a row of the table has a register.
     while low < high {
         let middle = low + (high - low) / 2;
         if register_at(table, grouped[middle] as usize) < register {
@@ -64,16 +62,15 @@ fn run(table: &[u64], grouped: &[u64], register: u64, from: usize, list: &mut [u
     requires table_in_bounds { row_count table.now ≤ length list.old }
     ensures { Run table.now grouped.now register from result list.new }
 {
-    let mut m: usize = 0;
-    while m < grouped.len() - from {
+    let n = grouped.len() - from;
+    for m in 0..n {
         let row = grouped[from + m];
         if register_at(table, row as usize) != register {
             return m;
         }
         list[m] = row;
-        m += 1;
     }
-    m
+    n
 }
 
 // The rows of a register in table sequence, at the front of the list; their number.
@@ -90,16 +87,13 @@ pub fn rows_of(table: &[u64], grouped: &[u64], register: u64, list: &mut [u64]) 
 fn distinct(list: &mut [u64]) -> usize
     ensures { Front result list.new (distinct list.old) }
 {
-    let n = list.len();
-    if n < 1 {
+    if list.is_empty() {
         return 0;
     }
     let mut last = list[0];
-    let mut m: usize = 1;
-    let mut i: usize = 1;
-    while i < n {
+    let mut m = 1;
+    for i in 1..list.len() {
         let next = list[i];
-        i += 1;
         if next != last {
             list[m] = next;
             m += 1;

@@ -2,11 +2,14 @@
 -- Assumes nothing.
 use Prim.Native.Nat.{ℕ, ◌+◌, ◌≤◌}
 use mathlib.Core.Path.{◌≡◌, refl, sym, ap, ◌∙◌}
-use mathlib.Core.Bool.{Bool, true, false, cond}
-use mathlib.Core.List.{List}
+use mathlib.Core.Bool.{Bool, true, false, cond, not, ◌&&◌}
+use mathlib.Core.List.{List, [], ◌∷◌}
 use native.Mathlib.Nat.{zero-add}
 use native.Mathlib.Omega.{arith}
+use lib.Dec.{eqb}
 use lib.ListN.{length}
+use lib.Pointwise.{pointwise}
+use Rattle.cells.specs.Parts.{same}
 use Rattle.parsing.specs.Numbers.{front}
 use Rattle.cells.specs.Steps.{cells_from, cell_at, end_of, comma_at}
 use Rattle.cells.proofs.Parting.{cells_last, cells_more, line_last, line_more, comma_within}
@@ -15,10 +18,32 @@ use Rattle.headers.specs.declared.Named.{Named}
 use Rattle.headers.specs.Header.{column_from, header_cells, width, named_from, unnamed, sound_header}
 use Rattle.headers.specs.Steps.{header_of, named_with, header_by, header_from}
 
--- a test that is the last of all
-pub or_not : (b : Bool) → cond b true false ≡ b
-or_not true = refl
-or_not false = refl
+-- names that are compared
+names_same : (x y : List ℕ) → pointwise eqb x y ≡ same x y
+unfolding same
+names_same [] [] = refl
+names_same [] (b ∷ y) = refl
+names_same (a ∷ x) [] = refl
+names_same (a ∷ x) (b ∷ y) = go (eqb a b) (names_same x y)
+  where
+    go : (d : Bool) → pointwise eqb x y ≡ same x y → (d && pointwise eqb x y) ≡ cond d (same x y) false
+    go true e = e
+    go false e = refl
+
+module _ (x y : List ℕ) where
+  pub names_equal : false ≡ not (pointwise eqb x y) → same x y ≡ true
+  names_equal e = sym (names_same x y) ∙ go (pointwise eqb x y) e
+    where
+      go : (b : Bool) → false ≡ not b → b ≡ true
+      go true e = refl
+      go false e = absurd cc
+
+  pub names_other : true ≡ not (pointwise eqb x y) → same x y ≡ false
+  names_other e = sym (names_same x y) ∙ go (pointwise eqb x y) e
+    where
+      go : (b : Bool) → true ≡ not b → b ≡ false
+      go true e = absurd cc
+      go false e = refl
 
 header_is : (size : ℕ) (m n : Named) (j k d e : ℕ) → m ≡ n → j ≡ k → d ≡ e → header_by size m j d ≡ header_by size n k e
 header_is size m n j k d e p q r = rw (p, q, r)

@@ -1,7 +1,8 @@
 // The header of a log: where each needed column stands, read in one walk over its cells.
 #![tactic(auto)]
 
-ghost use Rattle.std.specs.Prelude.{◌≡◌, false, cond, ltb};
+ghost use Rattle.std.specs.Prelude.{◌≡◌, cond};
+ghost use Rattle.cells.specs.Parts.{same};
 ghost use Rattle.headers.specs.Header.{more, is_only, place, places_of, complete};
 ghost use Rattle.headers.specs.Steps.{header_of, named_with};
 
@@ -42,17 +43,16 @@ pub struct Header {
     pub columns: Columns,
 }
 
-// What of a name is found behind one cell more, which may be equal to it.
-fn found_at(found: Column, equal: bool, k: usize) -> Column
-    ensures { result ≡ cond equal (more found k) found }
+// What of a name is found behind one cell more, in column k.
+fn found_at(found: Column, name: &[u8], cell: &[u8], k: usize) -> Column
+    ensures { result ≡ cond (same cell.now name.now) (more found k) found }
 {
-    if !equal {
+    if cell != name {
         return found;
     }
     match found {
         Column::Missing => Column::Only(k),
-        Column::Only(_) => Column::Repeated,
-        Column::Repeated => Column::Repeated,
+        Column::Only(_) | Column::Repeated => Column::Repeated,
     }
 }
 
@@ -60,87 +60,51 @@ fn found_at(found: Column, equal: bool, k: usize) -> Column
 fn named_at(named: Named, cell: &[u8], k: usize) -> Named
     ensures { result ≡ named_with named cell.now k }
 {
-    let register = named.register;
-    let kind = named.kind;
-    let value = named.value;
-    let start = named.start;
-    let finish = named.finish;
     Named {
-        register: found_at(register, cells::same(cell, b"register"), k),
-        kind: found_at(kind, cells::same(cell, b"kind"), k),
-        value: found_at(value, cells::same(cell, b"value"), k),
-        start: found_at(start, cells::same(cell, b"start"), k),
-        finish: found_at(finish, cells::same(cell, b"finish"), k),
+        register: found_at(named.register, b"register", cell, k),
+        kind: found_at(named.kind, b"kind", cell, k),
+        value: found_at(named.value, b"value", cell, k),
+        start: found_at(named.start, b"start", cell, k),
+        finish: found_at(named.finish, b"finish", cell, k),
     }
 }
 
 fn is_only(column: Column) -> bool
     ensures { result ≡ is_only column }
 {
-    match column {
-        Column::Missing => false,
-        Column::Only(_) => true,
-        Column::Repeated => false,
-    }
+    matches!(column, Column::Only(_))
 }
 
 fn place(column: Column) -> usize
     ensures { result ≡ place column }
 {
     match column {
-        Column::Missing => 0,
         Column::Only(k) => k,
-        Column::Repeated => 0,
+        Column::Missing | Column::Repeated => 0,
     }
 }
 
+// Whether each of the needed names stands once.
 fn complete(named: Named) -> bool
     ensures { result ≡ complete named }
 {
-    let register = named.register;
-    if !is_only(register) {
-        return false;
-    }
-    let kind = named.kind;
-    if !is_only(kind) {
-        return false;
-    }
-    let value = named.value;
-    if !is_only(value) {
-        return false;
-    }
-    let start = named.start;
-    if !is_only(start) {
-        return false;
-    }
-    let finish = named.finish;
-    is_only(finish)
+    is_only(named.register)
+        && is_only(named.kind)
+        && is_only(named.value)
+        && is_only(named.start)
+        && is_only(named.finish)
 }
 
 fn places_of(named: Named) -> Columns
     ensures { result ≡ places_of named }
 {
-    let register = named.register;
-    let kind = named.kind;
-    let value = named.value;
-    let start = named.start;
-    let finish = named.finish;
     Columns {
-        register: place(register),
-        kind: place(kind),
-        value: place(value),
-        start: place(start),
-        finish: place(finish),
+        register: place(named.register),
+        kind: place(named.kind),
+        value: place(named.value),
+        start: place(named.start),
+        finish: place(named.finish),
     }
-}
-
-fn sound(end: usize, size: usize, named: Named) -> bool
-    ensures { result ≡ cond (ltb end size) (complete named) false }
-{
-    if end < size {
-        return complete(named);
-    }
-    false
 }
 
 // The header line of a text.
@@ -156,13 +120,14 @@ pub fn read_header(bytes: &[u8]) -> Header
     };
     let mut k = 0;
     let mut at = 0;
+    // The next cell begins behind the comma that ends this one.
     loop {
         let end = cells::cell_end(bytes, at);
         named = named_at(named, &bytes[at..end], k);
         k += 1;
         if !cells::comma_at(bytes, end) {
             return Header {
-                sound: sound(end, bytes.len(), named),
+                sound: end < bytes.len() && complete(named),
                 start: end + 1,
                 width: k,
                 columns: places_of(named),

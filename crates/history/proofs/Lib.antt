@@ -3,4 +3,5 @@ pub mod Operations
 pub mod Rows
 pub mod Searches
 pub mod Refusals
+pub mod Chains
 pub mod Screened

@@ -1,21 +1,19 @@
--- A list of tests refuses nothing if and only if no condition is met; and the sequence as a chain, each step of which keeps an earlier refusal.
+-- A list of tests refuses nothing if and only if no condition is met; and what a run of tests gives, one behind the other.
 -- Assumes nothing.
 use Prim.Native.Nat.{ℕ}
-use mathlib.Core.Path.{◌≡◌, refl, sym, ap}
+use mathlib.Core.Path.{◌≡◌, refl, ap, ◌∙◌}
 use mathlib.Core.Logic.{◌≢◌}
 use mathlib.Core.Bool.{Bool, true, false}
 use mathlib.Core.List.{List, [], ◌∷◌, ◌++◌}
 use native.Mathlib.Omega.{arith}
-use borrow.Author.Tests.{eq-eqb, ne_eqb}
-use Rattle.lists.specs.declared.Found.{Found}
-use Rattle.lists.specs.declared.Found.TheVariants.{At, Nothing}
+use Rattle.std.specs.Prelude.{⊤, Option, Some, None, Result, Ok, Err}
 use Rattle.history.specs.declared.Answer.{Answer}
-use Rattle.history.specs.Answer.{number, refused, Test, if_so, refused_or, first_met, or_test}
+use Rattle.history.specs.Answer.{number, refused, Test, if_so, refused_or, first_met, passed, Ran}
 
 -- no test's condition is met
 abbrev pub NoFault : List Test → Type 0
 NoFault [] = Unit {0}
-NoFault (x ∷ xs) = (x.fault ≡ Nothing) × NoFault xs
+NoFault (x ∷ xs) = (x.fault ≡ None) × NoFault xs
 
 -- no test's code is 0
 abbrev pub Coded : List Test → Type 0
@@ -44,9 +42,9 @@ unfolding first_met
 code_no_fault [] h a e = tt
 code_no_fault (x ∷ xs) h a e = go x.fault refl e (code_no_fault xs h.1 a)
   where
-    go : (f : Found) → x.fault ≡ f → (refused_or x.code f (first_met xs a)).code ≡ 0 → ((first_met xs a).code ≡ 0 → NoFault xs) → (x.fault ≡ Nothing) × NoFault xs
-    go (At row) same z rest = absurd (h.0 z)
-    go Nothing same z rest = (same, rest z)
+    go : (f : Option ℕ) → x.fault ≡ f → (refused_or x.code f (first_met xs a)).code ≡ 0 → ((first_met xs a).code ≡ 0 → NoFault xs) → (x.fault ≡ None) × NoFault xs
+    go (Some row) same z rest = absurd (h.0 z)
+    go None same z rest = (same, rest z)
 
 pub no_fault_answer : (xs : List Test) (a : Answer) → NoFault xs → first_met xs a ≡ a
 unfolding first_met
@@ -59,34 +57,55 @@ unfolding first_met
 met_append [] ys a = refl
 met_append (x ∷ xs) ys a = ap (refused_or x.code x.fault) (met_append xs ys a)
 
+-- tests in parts: a refusal stays whatever follows, and where nothing is refused the next part decides
+pub met_kept : (xs : List Test) (a b : Answer) → a.code ≡ 0 → (first_met xs a).code ≢ 0 → first_met xs b ≡ first_met xs a
+unfolding first_met
+met_kept [] a b z n = absurd (n z)
+met_kept (x ∷ xs) a b z n = go x.fault n (met_kept xs a b z)
+  where
+    go : (f : Option ℕ) → (refused_or x.code f (first_met xs a)).code ≢ 0 → ((first_met xs a).code ≢ 0 → first_met xs b ≡ first_met xs a) → refused_or x.code f (first_met xs b) ≡ refused_or x.code f (first_met xs a)
+    go (Some row) n ih = refl
+    go None n ih = ih n
+
+module _ (xs ys : List Test) (a : Answer) where
+  pub met_stop : a.code ≡ 0 → (first_met xs a).code ≢ 0 → first_met (xs ++ ys) a ≡ first_met xs a
+  met_stop z n = met_append xs ys a ∙ met_kept xs a (first_met ys a) z n
+
+  pub met_on : Coded xs → (first_met xs a).code ≡ 0 → first_met (xs ++ ys) a ≡ first_met ys a
+  met_on c z = met_append xs ys a ∙ no_fault_answer xs (first_met ys a) (code_no_fault xs c a z)
+
 -- a condition on the whole call
-pub if_so_lem : (b : Bool) → if_so b ≡ Nothing → b ≡ false
+pub if_so_lem : (b : Bool) → if_so b ≡ None → b ≡ false
 if_so_lem true e = let z : ◌≡◌ {A = ℕ} 0 1 = cc in absurd (omega arith)
 if_so_lem false e = refl
 
-pub if_not : (b : Bool) → b ≡ false → if_so b ≡ Nothing
+pub if_not : (b : Bool) → b ≡ false → if_so b ≡ None
 if_not b e = rw e
 
--- The sequence as a chain.
-unfoldable pub chained : Answer → List Test → Answer
-chained a [] = a
-chained a (x ∷ xs) = chained (or_test a x) xs
+-- A run of tests, one behind the other: a test that is not met, and then the others; or one that is met.
+module _ (x : Test) where
+  pub ran_on : Ran (x ∷ []) (Ok tt) → (xs : List Test) (r : Result ⊤ Answer) → Ran xs r → Ran (x ∷ xs) r
+  unfolding first_met
+  ran_on h xs r g = record { met = λ a. h.met (first_met xs a) ∙ g.met a }
 
-pub chained_append : (a : Answer) (xs ys : List Test) → chained a (xs ++ ys) ≡ chained (chained a xs) ys
-unfolding chained
-chained_append a [] ys = refl
-chained_append a (x ∷ xs) ys = chained_append (or_test a x) xs ys
+  pub ran_met : (e : Answer) → Ran (x ∷ []) (Err e) → (xs : List Test) → Ran (x ∷ xs) (Err e)
+  unfolding first_met
+  ran_met e h xs = record { met = λ a. h.met (first_met xs a) }
 
-pub chained_refused : (a : Answer) → a.code ≢ 0 → (xs : List Test) → chained a xs ≡ a
-unfolding chained or_test
-chained_refused a n [] = refl
-chained_refused a n (x ∷ xs) = rw (ne_eqb a.code 0 n) (chained_refused a n xs)
+  -- one that is not met has no fault
+  pub ran_none : number x.code ≢ 0 → Ran (x ∷ []) (Ok tt) → x.fault ≡ None
+  unfolding first_met
+  ran_none n h = go x.fault refl (h.met (passed 0))
+    where
+      go : (f : Option ℕ) → x.fault ≡ f → refused_or x.code f (passed 0) ≡ passed 0 → x.fault ≡ None
+      go (Some row) same e = absurd (n (ap (λ (a : Answer). a.code) e))
+      go None same e = same
 
-pub met_chained : (xs : List Test) → Coded xs → (a : Answer) → a.code ≡ 0 → first_met xs a ≡ chained a xs
-unfolding chained first_met or_test
-met_chained [] h a z = refl
-met_chained (x ∷ xs) h a z = rw (eq-eqb a.code 0 z) (go x.fault (met_chained xs h.1 a z))
-  where
-    go : (f : Found) → first_met xs a ≡ chained a xs → refused_or x.code f (first_met xs a) ≡ chained (refused_or x.code f a) xs
-    go (At row) ih = sym (chained_refused (refused x.code row) h.0 xs)
-    go Nothing ih = ih
+  -- by its fault
+  pub ran_fault : (row : ℕ) → x.fault ≡ Some row → Ran (x ∷ []) (Err (refused x.code row))
+  unfolding first_met
+  ran_fault row e = record { met = λ a. rw e refl }
+
+  pub ran_no_fault : x.fault ≡ None → Ran (x ∷ []) (Ok tt)
+  unfolding first_met
+  ran_no_fault e = record { met = λ a. rw e refl }

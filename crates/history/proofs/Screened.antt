@@ -8,7 +8,7 @@ use mathlib.Core.List.{List, Memᴰ as In}
 use native.Mathlib.Omega.{arith}
 use borrow.Author.Tests.{not-false, eqb-true, eq-eqb, ltb-false, le-ltb}
 use lib.ListN.{length}
-use Rattle.lists.specs.declared.Found.TheVariants.{Nothing}
+use Rattle.std.specs.Prelude.{None}
 use Rattle.lists.proofs.Tests.{Told, told_true, true_told, told_false, false_told, told_as, told_not, told_and, told_or, told_ltb, told_eqb}
 use Rattle.lists.proofs.Members.{told_any, nothing_none, none_nothing}
 use Rattle.history.specs.declared.Op.{Op}
@@ -85,10 +85,10 @@ unfolding tests
 tests_coded size h b = omega arith
 
 module _ (size : ℕ) (h : List Op) where
-  none_meets : (p : Op → Bool) → lowest_row p h ≡ Nothing → (o : Op) → In o h → p o ≡ false
+  none_meets : (p : Op → Bool) → lowest_row p h ≡ None → (o : Op) → In o h → p o ≡ false
   none_meets p = nothing_none (λ o. o.row) p h
 
-  meets_none : (p : Op → Bool) → ((o : Op) → In o h → p o ≡ false) → lowest_row p h ≡ Nothing
+  meets_none : (p : Op → Bool) → ((o : Op) → In o h → p o ≡ false) → lowest_row p h ≡ None
   meets_none p = none_nothing (λ o. o.row) p h
 
   right_span : (o : Op) → wrong_span o ≡ false → Spanned o

@@ -6,7 +6,8 @@ use Rattle.lists.specs.Lists.{any}
 use Rattle.history.specs.declared.Op.{Op}
 use Rattle.history.specs.declared.Answer.{Answer}
 use Rattle.history.specs.Table.{largest_count, largest_stamp, history, is_opening, is_write, is_read, precedes, Precedes, dictates, Dictates}
-use Rattle.history.specs.Answer.{ragged, overfull, no_such_question, bad_kind, bad_span, second_opening, twin_write, orphan_read, early_read, Test, test, if_so, lowest_row, first_met, passed}
+use Rattle.history.specs.Answer.{Test, test, if_so, lowest_row, first_met, passed}
+use Rattle.history.specs.declared.Code.TheVariants.{Ragged, Overfull, NoSuchQuestion, BadKind, BadSpan, SecondOpening, TwinWrite, OrphanRead, EarlyRead}
 
 -- The conditions on an operation o of a register's history h (01's table, codes 4, 5 and 7 to 9; by 02 there is no 6, and 20
 -- stands after 5: W-203, W-207).
@@ -67,15 +68,15 @@ too_early h o = is_read o && any (precedes_write o) h
 -- else is examined. `unasked` is the condition of test 3, on the marking call's question or on the order check's k.
 unfoldable pub tests : ℕ → List Op → Bool → List Test
 tests size h unasked =
-    test ragged (if_so (not (eqb (size % 5) 0)))
-    ∷ test overfull (if_so (ltb largest_count (size / 5)))
-    ∷ test no_such_question (if_so unasked)
-    ∷ test bad_kind (lowest_row wrong_kind h)
-    ∷ test bad_span (lowest_row wrong_span h)
-    ∷ test second_opening (lowest_row (reopens h) h)
-    ∷ test twin_write (lowest_row (rewrites h) h)
-    ∷ test orphan_read (lowest_row (unwritten h) h)
-    ∷ test early_read (lowest_row (too_early h) h)
+    test Ragged (if_so (not (eqb (size % 5) 0)))
+    ∷ test Overfull (if_so (ltb largest_count (size / 5)))
+    ∷ test NoSuchQuestion (if_so unasked)
+    ∷ test BadKind (lowest_row wrong_kind h)
+    ∷ test BadSpan (lowest_row wrong_span h)
+    ∷ test SecondOpening (lowest_row (reopens h) h)
+    ∷ test TwinWrite (lowest_row (rewrites h) h)
+    ∷ test OrphanRead (lowest_row (unwritten h) h)
+    ∷ test EarlyRead (lowest_row (too_early h) h)
     ∷ []
 
 -- Tests 1 to 9 with the answer of a register that passes them (01, "The answer and its numbers").

@@ -4,7 +4,7 @@
 ghost use Rattle.std.specs.Prelude.{◌≡◌, ◌+◌, ◌*◌, ◌≤◌, length, eqb};
 ghost use Rattle.history.specs.Table.{row_at, operation, op_at, bears, is_opening, is_write, is_read, precedes};
 ghost use Rattle.history.specs.Screen.{stray_opening};
-ghost use Rattle.history.specs.Answer.{refused_by, passed, answer_after, list_after};
+ghost use Rattle.history.specs.Answer.{refused_by, refused, passed, answer_after, list_after};
 
 #[derive(Clone, Copy)]
 pub struct Row {
@@ -29,6 +29,11 @@ impl Row {
     pub const LARGEST_STAMP: u64 = 4611686018427387903;
 
     pub const LARGEST_COUNT: usize = 1024;
+
+    // Up to so many rows are few, and up to so many are some: short arrays do for them, which are sooner cleared than the long ones.
+    pub const FEW: usize = 32;
+
+    pub const SOME: usize = 256;
 
     pub const COLUMNS: usize = 5;
 
@@ -70,7 +75,7 @@ impl Row {
         ensures { result ≡ operation self row }
     {
         Op {
-            row: row,
+            row,
             kind: self.kind,
             value: self.value,
             start: self.start,
@@ -88,12 +93,6 @@ pub fn bears(table: &[u64], register: u64, row: usize) -> bool
 }
 
 impl Op {
-    pub const WRITE: u64 = 1;
-
-    pub const READ: u64 = 2;
-
-    pub const OPENING: u64 = 3;
-
     // The operation of a row of the table, which the caller keeps within it.
     pub fn at(table: &[u64], row: usize) -> Op
         requires { row * 5 + 5 ≤ length table.now }
@@ -105,48 +104,75 @@ impl Op {
     pub fn is_opening(self) -> bool
         ensures { result ≡ is_opening self }
     {
-        self.kind == Op::OPENING
+        self.kind == Kind::Opening as u64
     }
 
     pub fn is_write(self) -> bool
         ensures { result ≡ is_write self }
     {
-        if self.kind == Op::OPENING {
-            return true;
-        }
-        self.kind == Op::WRITE
+        self.kind == Kind::Write as u64 || self.kind == Kind::Opening as u64
     }
 
     pub fn is_read(self) -> bool
         ensures { result ≡ is_read self }
     {
-        self.kind == Op::READ
+        self.kind == Kind::Read as u64
     }
 
     // An opening with another stamp than 0.
     pub fn strays(self) -> bool
         ensures { result ≡ stray_opening self }
     {
-        if self.kind != Op::OPENING {
-            return false;
-        }
-        if self.start != 0 {
-            return true;
-        }
-        self.finish != 0
+        self.is_opening() && (self.start != 0 || self.finish != 0)
     }
 
     pub fn precedes(self, later: Op) -> bool
         ensures { result ≡ precedes self later }
     {
-        if self.finish < later.start {
-            return true;
-        }
-        if self.kind != Op::OPENING {
-            return false;
-        }
-        later.kind != Op::OPENING
+        self.finish < later.start || self.is_opening() && later.kind != Kind::Opening as u64
     }
+}
+
+// The codes of an answer, in the words of the documents. There is no 6.
+#[derive(Clone, Copy, PartialEq, Eq)]
+pub enum Code {
+    Fresh = 0,
+    Ragged = 1,
+    Overfull = 2,
+    NoSuchQuestion = 3,
+    BadKind = 4,
+    BadSpan = 5,
+    TwinWrite = 7,
+    OrphanRead = 8,
+    EarlyRead = 9,
+    ShortList = 10,
+    Spent = 11,
+    Stale = 12,
+    MisfitList = 13,
+    OutOfTime = 14,
+    TooFarBehind = 15,
+    CutRecord = 16,
+    StrangeRecord = 17,
+    HeaderFault = 18,
+    UnreadableCell = 19,
+    SecondOpening = 20,
+}
+
+impl Code {
+    // The answer with this code, a row field and zeros.
+    pub fn at(self, row: u64) -> Answer
+        ensures { result ≡ refused self row }
+    {
+        Answer::refused(self as u64, row)
+    }
+}
+
+// The kinds of a row that passes test 4. A row's kind is a number, since a table may hold any.
+#[derive(Clone, Copy, PartialEq, Eq)]
+pub enum Kind {
+    Write = 1,
+    Read = 2,
+    Opening = 3,
 }
 
 #[derive(Clone, Copy)]
@@ -158,53 +184,13 @@ pub struct Answer {
 }
 
 impl Answer {
-    pub const FRESH: u64 = 0;
-
-    pub const RAGGED: u64 = 1;
-
-    pub const OVERFULL: u64 = 2;
-
-    pub const NO_SUCH_QUESTION: u64 = 3;
-
-    pub const BAD_KIND: u64 = 4;
-
-    pub const BAD_SPAN: u64 = 5;
-
-    pub const TWIN_WRITE: u64 = 7;
-
-    pub const ORPHAN_READ: u64 = 8;
-
-    pub const EARLY_READ: u64 = 9;
-
-    pub const SHORT_LIST: u64 = 10;
-
-    pub const SPENT: u64 = 11;
-
-    pub const STALE: u64 = 12;
-
-    pub const MISFIT_LIST: u64 = 13;
-
-    pub const OUT_OF_TIME: u64 = 14;
-
-    pub const TOO_FAR_BEHIND: u64 = 15;
-
-    pub const CUT_RECORD: u64 = 16;
-
-    pub const STRANGE_RECORD: u64 = 17;
-
-    pub const HEADER_FAULT: u64 = 18;
-
-    pub const UNREADABLE_CELL: u64 = 19;
-
-    pub const SECOND_OPENING: u64 = 20;
-
     // The answer with a code and a row field alone.
     pub fn refused(code: u64, row: u64) -> Answer
         ensures { result ≡ refused_by code row }
     {
         Answer {
-            code: code,
-            row: row,
+            code,
+            row,
             rows: 0,
             trials: 0,
         }
@@ -215,9 +201,9 @@ impl Answer {
         ensures { result ≡ passed rows }
     {
         Answer {
-            code: Answer::FRESH,
+            code: Code::Fresh as u64,
             row: 0,
-            rows: rows,
+            rows,
             trials: 0,
         }
     }
@@ -227,7 +213,7 @@ impl Answer {
         ensures { (result ≡ answer_after list.old) × (list.new ≡ list_after self list.old) }
     {
         if list.len() < 4 {
-            return Answer::refused(Answer::SHORT_LIST, 0);
+            return Code::ShortList.at(0);
         }
         list[0] = self.code;
         list[1] = self.row;

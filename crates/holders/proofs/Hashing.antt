@@ -5,10 +5,10 @@ use mathlib.Core.Path.{◌≡◌, refl, sym, ◌∙◌}
 use mathlib.Core.Logic.{◌⊎◌, inl, inr, ◌≢◌}
 use mathlib.Core.List.{List}
 use native.Mathlib.Omega.{arith}
-use lib.ListN.{length, get_or, set, replicate, length-set, length-replicate, get_or-replicate}
+use lib.ListN.{length, get_or, set, length-set}
 use lib.Seq.{get_or-set_same, get_or-set_other}
-use Rattle.firsts.specs.Firsts.{First, Firsts}
-use Rattle.holders.specs.Buckets.{most_keys, bucket_of, Held, Last, Started, Room}
+use Rattle.firsts.specs.Firsts.{First}
+use Rattle.holders.specs.Buckets.{bucket_of, Held, Last, Started, Room}
 use Rattle.holders.proofs.Walking.{below}
 
 pub record Hashing (n : ℕ) (keys : List ℕ) (e : ℕ) (heads next out heads₀ next₀ out₀ : List ℕ) : Type 0 where
@@ -29,22 +29,7 @@ last_on n keys h e k d g = record { within = omega (arith, g.within); at = g.at;
     go j a b x (inr c) = let i : j ≡ e = omega arith in d (rw (← i) x)
 
 module _ (n : ℕ) (keys heads₀ next₀ out₀ : List ℕ) (r : Room n keys heads₀ next₀ out₀) where
-  pub hash_none : Hashing n keys 0 heads₀ next₀ out₀ heads₀ next₀ out₀
-  hash_none =
-      record {
-        within = omega arith;
-        buckets = refl;
-        links = refl;
-        places = refl;
-        firsts = λ j l. absurd (omega arith);
-        chained = λ j l. absurd (omega arith);
-        linked = λ h l. rw (r.empty h l) (record { within = omega arith; at = λ c. absurd (omega arith); none = λ j a b. absurd (omega arith) });
-      }
-
   module _ (e : ℕ) (heads next out : List ℕ) (g : Hashing n keys e heads next out heads₀ next₀ out₀) where
-    pub hash_end : length keys ≤ e → Firsts keys out
-    hash_end h = record { at = λ j l. g.firsts j (omega arith) }
-
     module _ (l : e < length keys) where
       pub hash_started : (h : ℕ) → h ≡ bucket_of n keys e → h < n → Started n keys next e (get_or heads h 0)
       hash_started h q b =
@@ -127,14 +112,3 @@ module _ (n : ℕ) (keys heads₀ next₀ out₀ : List ℕ) (r : Room n keys he
               (record { within = omega arith; at = λ y. rw m (record { first = x; here = sym q }); none = λ j a d y. absurd (omega arith) })
           link i c (inr p) =
               rw (get_or-set_other heads h i (e + 1) 0 p) (last_on n keys i e (get_or heads i 0) (λ y. p (sym y.here ∙ sym q)) (g.linked i c))
-
--- n empty buckets, and places for all
-pub empty_room : (n m : ℕ) (keys out : List ℕ) → length keys ≤ m → m ≤ most_keys → length keys ≤ length out → Room n keys (replicate n 0) (replicate m 0) out
-empty_room n m keys out a l b =
-    record {
-      small = omega arith;
-      chains = length-replicate {A = ℕ} n 0;
-      links = omega (arith, length-replicate {A = ℕ} m 0);
-      places = b;
-      empty = λ h l. get_or-replicate {A = ℕ} n h 0 0 l;
-    }

@@ -34,21 +34,10 @@ module _ (n : ℕ) (keys next : List ℕ) (e link : ℕ) (s : Started n keys nex
   abbrev same_bucket : (j : ℕ) → get_or keys j 0 ≡ get_or keys e 0 → bucket_of n keys j ≡ bucket_of n keys e
   same_bucket j q = ap (λ (x : ℕ). x % n) q
 
-  pub walk_none : Walking n keys e link
-  walk_none =
-      record {
-        within = s.linked.within;
-        at = s.linked.at;
-        missed = λ j a c f q. s.linked.none j a c (record { first = f; here = same_bucket j q });
-      }
-
   module _ (k : ℕ) (g : Walking n keys e k) where
     module _ (some : 0 < k) where
       before : Last n keys (bucket_of n keys (k - 1)) (k - 1) (get_or next (k - 1) 0)
       before = s.chained (k - 1) (omega (arith, g.within)) (g.at some).first
-
-      pub walk_falls : get_or next (k - 1) 0 < k
-      walk_falls = omega (arith, before.within)
 
       pub walk_on : (get_or keys (k - 1) 0 ≡ get_or keys e 0 → ⊥) → Walking n keys e (get_or next (k - 1) 0)
       walk_on d =
@@ -62,9 +51,6 @@ module _ (n : ℕ) (keys next : List ℕ) (e link : ℕ) (s : Started n keys nex
           go j a l f q (inl c) x = before.none j a c (record { first = f; here = same_bucket j q ∙ sym (g.at some).here })
           go j a l f q (inr c) (inl x) = let i : j ≡ k - 1 = omega arith in d (rw (← i) q)
           go j a l f q (inr c) (inr x) = g.missed j x l f q
-
-      pub walk_found : get_or keys (k - 1) 0 ≡ get_or keys e 0 → (k - 1 < e) × First keys e (k - 1)
-      walk_found q = (omega (arith, g.within), record { same = q; least = λ j l r. (g.at some).first.least j l (r ∙ sym q) })
 
     pub walk_end : k ≡ 0 → First keys e e
     walk_end z = record { same = refl; least = λ j l q. go j q (below j e) }

@@ -1,13 +1,9 @@
 -- The first places of the keys, in a chain for each bucket: from the last one back, each link one more than the place, 0 at the end.
 -- Assumes nothing.
-use Rattle.std.specs.Prelude.{ℕ, ◌-◌, ◌%◌, ◌≤◌, ◌<◌, ◌≡◌, Bool, cond, List, length, get_or}
+use Rattle.std.specs.Prelude.{ℕ, ◌-◌, ◌%◌, ◌≤◌, ◌<◌, ◌≡◌, List, length, get_or, Option, MatchOption}
 use Rattle.firsts.specs.Firsts.{First}
-use Rattle.holders.specs.declared.Seen.{Seen}
 
--- how many buckets there are for few keys and for many, and the most keys
-abbrev pub buckets : Bool → ℕ
-buckets few = cond few 127 2039
-
+-- the most keys
 abbrev pub most_keys : ℕ
 most_keys = 1024
 
@@ -34,10 +30,9 @@ pub record Started (n : ℕ) (keys next : List ℕ) (e link : ℕ) : Type 0 wher
   pub known : (j : ℕ) → j < e → (f : ℕ) × (f < e) × First keys j f
   pub linked : Last n keys (bucket_of n keys e) e link
 
--- if steps are left: the first place of e's key stands there, or it is e
-pub record Finds (keys : List ℕ) (e : ℕ) (r : Seen) : Type 0 where
-  pub found : 0 < r.left → 0 < r.place → (r.place - 1 < e) × First keys e (r.place - 1)
-  pub new : 0 < r.left → r.place ≡ 0 → First keys e e
+-- what a search finds: the first place of e's key, or none, and then e is the first
+abbrev pub Found : List ℕ → ℕ → Option ℕ → Type 0
+Found keys e r = MatchOption r (First keys e e) (λ f. (f < e) × First keys e f)
 
 -- what the caller shows: places for all, and empty buckets
 pub record Room (n : ℕ) (keys heads next out : List ℕ) : Type 0 where

@@ -2,7 +2,8 @@
 #![tactic(auto)]
 
 ghost use Rattle.std.specs.Prelude.{◌≡◌, ◌≢◌, ◌*◌, ◌≤◌, length};
-ghost use Rattle.history.specs.Answer.{number, short_list};
+ghost use Rattle.history.specs.Answer.{number};
+ghost use Rattle.history.specs.declared.Code.TheVariants.{ShortList};
 ghost use Rattle.records.specs.Records.{table_of};
 ghost use Rattle.files.specs.Files.{file_answer};
 ghost use Rattle.marks.specs.Marks.{Said};
@@ -11,22 +12,21 @@ ghost use Rattle.host.specs.Host.{host_code, Given};
 
 use history::Row;
 
-// The code of the mark, by way of the register's rows alone: they are copied from their records' places into the lent table.
-fn code_with(bytes: &[u8], places: &[u16], register: u64, question: u64, table: &mut [u64]) -> u64
+const FEW_CELLS: usize = Row::FEW * Row::COLUMNS;
+
+// The code of the mark, by way of the register's rows alone: they are copied from their records' places into a table of N numbers.
+fn code_sized<const N: usize>(bytes: &[u8], places: &[u16], register: u64, question: u64) -> u64
+    requires size { N ≤ 5120 }
     requires placed { Placed bytes.now register places.now }
-    requires room { length places.now * 5 ≤ length table.old }
+    requires room { length places.now * 5 ≤ N }
     ensures { Given bytes.now register question result }
 {
-    selection::copy(bytes, places, table);
+    let mut table = [0u64; N];
+    selection::copy(bytes, places, &mut table);
     let n = places.len() * Row::COLUMNS;
     let mark = marks::answer(&table[..n], register, question, marks::MOST_TRIALS);
     mark.code
 }
-
-// Most registers have at most so many rows, and get a short table of their own: a long one takes longer to clear than they take to mark.
-const FEW: usize = 32;
-
-const FEW_CELLS: usize = 160;
 
 // The code of the file's refusal, else of the mark; what the mark says is `Said`. One pass over the file finds the register's records, so that
 // the table can be chosen by how many there are.
@@ -34,18 +34,17 @@ const FEW_CELLS: usize = 160;
 pub extern "C" fn valgrist_mark(bytes: &[u8], register: u64, question: u64) -> u64
     ensures code { result ≡ host_code bytes.now register question }
     ensures said { (file_answer bytes.now).code ≡ 0 → Said (table_of bytes.now) register question result }
-    ensures room { result ≢ number short_list }
+    ensures room { result ≢ number ShortList }
 {
     let mut places = [0u16; Row::LARGEST_COUNT];
     let found = selection::find(bytes, register, &mut places);
     if found.code != 0 {
         return found.code;
     }
-    let m = found.rows as usize;
-    if m <= FEW {
-        let mut few = [0u64; FEW_CELLS];
-        return code_with(bytes, &places[..m], register, question, &mut few);
+    let places = &places[..found.rows as usize];
+    if places.len() <= Row::FEW {
+        code_sized::<FEW_CELLS>(bytes, places, register, question)
+    } else {
+        code_sized::<{ Row::LARGEST_TABLE }>(bytes, places, register, question)
     }
-    let mut table = [0u64; Row::LARGEST_TABLE];
-    code_with(bytes, &places[..m], register, question, &mut table)
 }

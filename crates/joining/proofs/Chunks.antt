@@ -6,6 +6,7 @@ use mathlib.Core.Bool.{Bool, true, false}
 use mathlib.Core.Logic.{◌⊎◌, inl, inr}
 use mathlib.Core.List.Memᴰ
 use mathlib.Core.List.{List, [], ◌∷◌, ◌++◌, append-nil, Memᴰ as In}
+use Rattle.std.specs.Prelude.{Option}
 use native.Mathlib.Omega.{arith}
 use lib.ListN.{length, get_or, drop}
 use lib.Seq.{drop-cons}
@@ -19,11 +20,10 @@ use Rattle.methods.specs.declared.Zone.{Zone}
 use Rattle.methods.specs.Zones.{order, low, zone_of}
 use Rattle.methods.specs.Fzf.{chunk, inner, listed, first_viable, only, made}
 use Rattle.positions.specs.Columns.{Cols, size, wr, Sound, op, ops, Of}
-use Rattle.placing.specs.declared.Front.{Front}
 use Rattle.zones.specs.Zones.{zone_by, Zoned, Inside}
 use Rattle.zones.proofs.ByLow.{by_low_length, zone_at}
 use Rattle.choice.specs.Gives.{Gives, no_order as none_chosen, an_order as one_chosen}
-use Rattle.choice.specs.Offered.{Chunk, chosen_by}
+use Rattle.choice.specs.Offered.{Shown, chosen_by}
 use Rattle.chunking.specs.Chunks.{lies, side}
 use Rattle.chunking.specs.Inner.{Sides}
 use Rattle.freeing.specs.Marks.{Writes}
@@ -34,9 +34,6 @@ use Rattle.joining.specs.Items.{forths, backs, Cut, run_of, Lent, Chunked, no_or
 
 -- The lists of writes are of positions, and each has room in an array.
 module _ (C : Cols) (p : Sound C) (late : List ℕ) (g : Zoned C late) where
-  pub late_long : length late ≡ length C.finish
-  late_long = g.long ∙ sym p.ending
-
   pub sides_inside : (b : Bool) → Inside C.finish (side C.finish late C.writer b)
   sides_inside b = side_inside C.finish late C.writer b (p.ending ∙ sym p.shape.long)
 
@@ -47,7 +44,6 @@ module _ (C : Cols) (p : Sound C) (late : List ℕ) (g : Zoned C late) where
   pub both_sides : (F B : List ℕ) → F ≡ forths C late → B ≡ backs C late → Sides C.finish late F B
   both_sides F B x y =
       record {
-        long = late_long;
         forth = rw x (sides_inside true);
         back = rw y (sides_inside false);
         rises = rw y (side_rises C.finish late C.writer false);
@@ -80,7 +76,7 @@ module _ (C : Cols) (p : Sound C) (n : size C ≤ 1024) (late : List ℕ) (g : Z
       go (inr i) = inner_write x i
 
   -- what the choice requires
-  pub chunk_choice : (list turn placed part : List ℕ) → Lent (size C) list turn placed part → Chunk C run I turn placed part
+  pub chunk_choice : (list turn placed part : List ℕ) → Lent (size C) list turn placed part → Shown C run I turn placed part
   chunk_choice list turn placed part l =
       record {
         small = n;
@@ -117,12 +113,11 @@ module _ (C : Cols) (p : Sound C) (n : size C ≤ 1024) (late : List ℕ) (g : Z
         ∙ ap (λ (t : List Op). first_viable (listed t (ops H I)) (only (t ++ ops H I) H)) a
         ∙ ap (λ (x : List Op). first_viable (listed (ops H run) (ops H I)) x) c
 
-  pub chunk_made : (part : List ℕ) (r : Front) → Gives C (chosen_by run I (clusters_of C.writer (run ++ I))) [] part r → Chunked C run top part r.at r.failed
-  chunk_made part r (none_chosen q d) = rw q (no_order (λ H o. made_is H o ∙ d H o))
-  chunk_made part r (one_chosen q x) =
-      rw q
-      (an_order
+  pub chunk_made : (part : List ℕ) {r : Option ℕ} → Gives C (chosen_by run I (clusters_of C.writer (run ++ I))) [] part r → Chunked C run top part r
+  chunk_made part (none_chosen d) = no_order (λ H o. made_is H o ∙ d H o)
+  chunk_made part (one_chosen x) =
+      an_order
       (record {
         high = x.high;
         whole = λ H o. made_is H o ∙ x.whole H o ∙ ap (λ (l : List ℕ). order (ops H l)) (sym (append-nil x.placed) ∙ x.lays);
-      }))
+      })

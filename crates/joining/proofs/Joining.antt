@@ -7,8 +7,9 @@ use mathlib.Core.Logic.{◌⊎◌, inl, inr}
 use mathlib.Core.List.Memᴰ
 use mathlib.Core.List.Memᴰ.{head as here}
 use mathlib.Core.List.{List, [], ◌∷◌, ◌++◌, flat_map, append-nil, append_assoc, Memᴰ as In}
+use Rattle.std.specs.Prelude.{Some, None}
 use native.Mathlib.Omega.{arith}
-use lib.ListN.{length, take, drop, replicate, length-append, length-map, length-drop, get_or-replicate, drop_of_length-le}
+use lib.ListN.{length, take, drop, length-append, length-map, length-drop, drop_of_length-le}
 use lib.Seq.{take_all, length-take-le}
 use lib.Dec.{leb}
 use borrow.Author.Tests.{leb-true, leb-false, le-leb}
@@ -22,7 +23,7 @@ use Rattle.methods.specs.Zones.{order}
 use Rattle.methods.specs.Fzf.{Item, runs, dangles, made, items, put_before, join, fzf}
 use Rattle.methods.specs.Mark.{untried}
 use Rattle.positions.specs.Columns.{Cols, size, op, ops, Of, Says}
-use Rattle.positions.proofs.Columns.{size_is}
+use Rattle.positions.proofs.OfHistory.{size_is}
 use Rattle.placing.specs.declared.Search.TheVariants.{Stale, Fresh}
 use Rattle.placing.specs.Searched.{Searched, is_stale, is_fresh}
 use Rattle.zones.specs.Zones.{Zoned}
@@ -65,10 +66,9 @@ pub over_false : (f b a j : ℕ) → over_at f b a j ≡ false → f ≤ a → j
 unfolding over_at
 over_false f b a j e h = leb-false b j (rw (le-leb f a h) at e)
 
--- an item that does not fail goes on
-pub goes_on : {C : Cols} {F B : List ℕ} {a j : ℕ} {part : List ℕ} {r : Next} → Nexts C F B a j part r → r.failed ≡ false → Goes C F B a j part r
-goes_on (ends e x) q = absurd (both e q)
-goes_on (goes e x) q = x
+-- an item that has an order goes on
+pub goes_on : {C : Cols} {F B : List ℕ} {a j : ℕ} {part : List ℕ} {r : Next} → Nexts C F B a j part (Some r) → Goes C F B a j part r
+goes_on (goes x) = x
 
 flat_one : (f : Item → List Op) (a : List Item) (i : Item) → flat_map f (a ++ (i ∷ [])) ≡ flat_map f a ++ f i
 unfolding flat_map
@@ -82,10 +82,6 @@ part_whole part at = take_all (length part - at) (drop at part) (rw (length-drop
 -- at the outset everything is shut, and no backward zone was looked at
 pub poised_none : (C : Cols) (late F B placed : List ℕ) → Shut (length C.writer) placed → Poised C late F B 0 0 placed
 poised_none C late F B placed h = record { shut = h; behind = λ l. record { within = omega arith; lows = λ k b. absurd (omega arith) } }
-
--- everything is shut
-pub shut_all : (n m : ℕ) → m ≤ n → Shut m (replicate n 1)
-shut_all n m h j l = rw (get_or-replicate {A = ℕ} n j 1 0 (omega arith))
 
 -- after an item the places are as many
 pub lent_again : {n : ℕ} {list turn placed part : List ℕ} → Lent n list turn placed part → (list' turn' placed' part' : List ℕ) → length list' ≡ length list → length turn' ≡ length turn →
@@ -167,11 +163,10 @@ module _ (C : Cols) (late : List ℕ) (g : Zoned C late) where
         empty H = rw (drop_of_length-le F h, drop_of_length-le B l) refl
 
     -- an item has no order
-    pub join_fails : (part : List ℕ) (r : Next) → Nexts C F B a j part r → r.failed ≡ true → (o : List ℕ) → (allowance : ℕ) →
+    pub join_fails : (part : List ℕ) → Nexts C F B a j part None → (o : List ℕ) → (allowance : ℕ) →
         Searched C allowance (λ H. untried (fzf H)) o (Stale 0)
     unfolding fzf join put_before
-    join_fails part r (goes e x) q o allowance = absurd (both q e)
-    join_fails part r (ends e x) q w allowance =
+    join_fails part (ends x) w allowance =
         is_stale {t = 0} (omega arith)
         (λ H o.
         let d = k.whole H o in
@@ -183,7 +178,7 @@ module _ (C : Cols) (late : List ℕ) (g : Zoned C late) where
 
     module _ (part : List ℕ) (r : Next) (x : Goes C F B a j part r) where
       -- one item more
-      more : Says C (λ H. (done : List Item) × (items H ≡ done ++ remaining F B r.forward r.backward H) ×
+      more : Says C (λ H. (done : List Item) × (items H ≡ done ++ remaining F B r.cursor.forward r.cursor.backward H) ×
           ((i : Item) → In i done → made H i ≡ order (order_of H i)) × (flat_map (order_of H) done ≡ ops H (take m out ++ drop r.at part)))
       more H o =
           let d = k.whole H o in
@@ -208,7 +203,7 @@ module _ (C : Cols) (late : List ℕ) (g : Zoned C late) where
           omega (arith, s, ap length q, length-map (take m out ++ drop r.at part) (op H), length-append (take m out) (drop r.at part), length-take-le m out (omega (arith, k.long, k.few)), size_is o)
 
       pub join_on : Known C → (out' : List ℕ) (m' : ℕ) → length out' ≡ length out → m' ≡ m + length (drop r.at part) → take m' out' ≡ take m out ++ drop r.at part →
-          Joining C F B out' m' r.forward r.backward
+          Joining C F B out' m' r.cursor.forward r.cursor.backward
       join_on w out' m' l e t =
           record {
             forth = x.forth;

@@ -3,4 +3,3 @@ pub mod Merged
 pub mod Chunks
 pub mod Nexting
 pub mod Joining
-pub mod Appending

@@ -5,6 +5,7 @@ use mathlib.Core.Path.{◌≡◌, refl, ap, sym, ◌∙◌}
 use mathlib.Core.Bool.{Bool, true, false, cond}
 use mathlib.Core.Logic.{◌⊎◌, inl, inr}
 use mathlib.Core.List.{List, [], ◌∷◌}
+use Rattle.std.specs.Prelude.{Some, None}
 use native.Mathlib.Omega.{arith}
 use native.Mathlib.Numerals.{add-one}
 use lib.ListN.{length, get_or, take, drop, drop_of_length-le, length-drop}
@@ -152,11 +153,13 @@ module _ (C : Cols) (p : Sound C) (late : List ℕ) (g : Zoned C late) where
           go true (no_cluster l m) c = rw (clusters_end H o m) refl
           go true (chunk_low l m i) c = rw (clusters_one H o m, first_is H o l m q head_is, i) refl
 
-      pub next_chunk : j ≤ length B → chunk_first C.finish late F B a j ≡ true → (part : List ℕ) (at : ℕ) (failed : Bool) → Chunked C R span.top part at failed → (i : ℕ) →
-          Nexts C F B a j part (record { at = at; failed = failed; forward = span.end; backward = j; inner = i })
-      next_chunk l e part at true (no_order c) i = ends refl (λ H o. (chunk (run_of H R span.top), remaining F B span.end j H, chunk_next H o e, c H o))
-      next_chunk l e part at false (an_order c) i =
-          goes refl (record { item = λ H. chunk (run_of H R span.top); forth = k; back = l; on = omega arith; holds = c; next = λ H o. chunk_next H o e })
+      pub next_chunk : j ≤ length B → chunk_first C.finish late F B a j ≡ true → (part : List ℕ) (at : ℕ) → Chunked C R span.top part (Some at) → (i : ℕ) →
+          Nexts C F B a j part (Some (record { at = at; cursor = record { forward = span.end; backward = j; inner = i } }))
+      next_chunk l e part at (an_order c) i =
+          goes (record { item = λ H. chunk (run_of H R span.top); forth = k; back = l; on = omega arith; holds = c; next = λ H o. chunk_next H o e })
+
+      pub no_chunk_next : chunk_first C.finish late F B a j ≡ true → (part : List ℕ) → Chunked C R span.top part None → Nexts C F B a j part None
+      no_chunk_next e part (no_order c) = ends (λ H o. (chunk (run_of H R span.top), remaining F B span.end j H, chunk_next H o e, c H o))
 
       -- the first of the run is the one at a
       pub run_first : get_or R 0 0 ≡ get_or F a 0
@@ -210,10 +213,10 @@ module _ (C : Cols) (p : Sound C) (late : List ℕ) (g : Zoned C late) where
 
     pub next_cluster : a ≤ length F → j < length B → chunk_first C.finish late F B a j ≡ false → (part : List ℕ) (at : ℕ) →
         (drop at part ≡ cluster_at C.writer (get_or B j 0)) × (at ≤ length part) → (i : ℕ) →
-        Nexts C F B a j part (record { at = at; failed = false; forward = a; backward = j + 1; inner = i })
+        Nexts C F B a j part (Some (record { at = at; cursor = record { forward = a; backward = j + 1; inner = i } }))
     unfolding made
     next_cluster h k e part at x i =
-        goes refl
+        goes
         (record {
           item = λ H. dangling (op H (get_or B j 0));
           forth = h;

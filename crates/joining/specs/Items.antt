@@ -1,7 +1,7 @@
 -- What is joined next (document 01, "FZF"): the forward and the backward writes stand by low end, and from a place in each on, what is left are
 -- the chunks of the first and the dangling ones of the second, merged by low end.
 -- Assumes nothing.
-use Rattle.std.specs.Prelude.{ℕ, ◌+◌, ◌≤◌, ◌<◌, ◌≡◌, Bool, true, false, length, get_or, drop}
+use Rattle.std.specs.Prelude.{ℕ, ◌+◌, ◌≤◌, ◌<◌, ◌≡◌, true, false, length, get_or, drop, Option, Some, None}
 use mathlib.Core.List.{List, ◌∷◌, Memᴰ as In}
 use Rattle.lists.specs.Lists.{keep}
 use Rattle.lists.specs.Pairs.{Pairs}
@@ -57,9 +57,9 @@ pub record Holds-order (C : Cols) (item : List Op → Item) (part : List ℕ) (a
   pub whole : Says C (λ H. made H (item H) ≡ order (ops H (drop at part)))
 
 -- THE CONTRACT of a chunk: it has no viable order, or this one
-pub data Chunked (C : Cols) (run : List ℕ) (top : ℕ) (part : List ℕ) (at : ℕ) : Bool → Type 0 where
-  no_order : Says C (λ H. made H (chunk (run_of H run top)) ≡ none) → Chunked C run top part at true
-  an_order : Holds-order C (λ H. chunk (run_of H run top)) part at → Chunked C run top part at false
+pub data Chunked (C : Cols) (run : List ℕ) (top : ℕ) (part : List ℕ) : Option ℕ → Type 0 where
+  no_order : Says C (λ H. made H (chunk (run_of H run top)) ≡ none) → Chunked C run top part None
+  an_order : {at : ℕ} → Holds-order C (λ H. chunk (run_of H run top)) part at → Chunked C run top part (Some at)
 
 -- what is left to join, from a and j on
 abbrev pub remaining : List ℕ → List ℕ → ℕ → ℕ → List Op → List Item
@@ -68,13 +68,13 @@ remaining F B a j H = merge H (runs H (ops H (drop a F))) (keep (dangles H) (ops
 -- an item comes next, and then what is left from the new places on
 pub record Goes (C : Cols) (F B : List ℕ) (a j : ℕ) (part : List ℕ) (r : Next) : Type 0 where
   pub item : List Op → Item
-  pub forth : r.forward ≤ length F
-  pub back : r.backward ≤ length B
-  pub on : a + j < r.forward + r.backward
+  pub forth : r.cursor.forward ≤ length F
+  pub back : r.cursor.backward ≤ length B
+  pub on : a + j < r.cursor.forward + r.cursor.backward
   pub holds : Holds-order C item part r.at
-  pub next : Says C (λ H. remaining F B a j H ≡ item H ∷ remaining F B r.forward r.backward H)
+  pub next : Says C (λ H. remaining F B a j H ≡ item H ∷ remaining F B r.cursor.forward r.cursor.backward H)
 
 -- THE CONTRACT of the next item: it has no order, or it goes on
-pub data Nexts (C : Cols) (F B : List ℕ) (a j : ℕ) (part : List ℕ) (r : Next) : Type 0 where
-  ends : r.failed ≡ true → Says C (λ H. (i : Item) × (l : List Item) × (remaining F B a j H ≡ i ∷ l) × (made H i ≡ none)) → Nexts C F B a j part r
-  goes : r.failed ≡ false → Goes C F B a j part r → Nexts C F B a j part r
+pub data Nexts (C : Cols) (F B : List ℕ) (a j : ℕ) (part : List ℕ) : Option Next → Type 0 where
+  ends : Says C (λ H. (i : Item) × (l : List Item) × (remaining F B a j H ≡ i ∷ l) × (made H i ≡ none)) → Nexts C F B a j part None
+  goes : {r : Next} → Goes C F B a j part r → Nexts C F B a j part (Some r)

@@ -14,7 +14,7 @@ use Rattle.history.specs.Table.{is_write}
 use Rattle.methods.specs.Lbt.{Step, bad, done, next, step}
 use Rattle.walks.proofs.Epochs.{Bad, late_write, two_values, no_writer, Step?, is_bad, is_done, is_next, step?}
 use Rattle.positions.specs.Columns.{Cols, wr, Sound, op, ops, Of}
-use Rattle.positions.proofs.Columns.{size_is, own_is, value_same, same_value_lem}
+use Rattle.positions.proofs.OfHistory.{size_is, own_is, value_same, same_value_lem}
 use Rattle.placing.specs.States.{State, left, Holds, Whose}
 use Rattle.placing.specs.Scanned.{Asking, Broken, a_write, two}
 use Rattle.placing.specs.Stepped.{ending, Told}

@@ -25,7 +25,7 @@ use Rattle.positions.specs.Columns.{Cols, size, wr, is_own, ends_before, by_fini
 use Rattle.positions.proofs.Places.{below, upto_ext, upto_stop, in_upto, keep_upto, no_cond, cond_both}
 use Rattle.positions.proofs.Latest.{latest_le, latest_none, latest_at}
 use Rattle.positions.proofs.Ops.{keep_ops, in_ops, ops_in}
-use Rattle.positions.proofs.Columns.{size_is, start_is, finish_is, own_is}
+use Rattle.positions.proofs.OfHistory.{size_is, start_is, finish_is, own_is}
 use Rattle.placing.specs.States.{State, is_free, left, Holds}
 use Rattle.placing.proofs.Lates.{under_top, top_in}
 use Rattle.lbt.specs.Rounds.{open_write}

@@ -7,6 +7,7 @@ use Rattle.positions.specs.Places.{and, latest}
 use Rattle.positions.specs.Columns.{Cols, size, is_own, ops, Says}
 use Rattle.placing.specs.States.{State, is_free, left, state_of, Whose}
 use Rattle.placing.specs.Added.{Kept}
+use Rattle.placing.specs.declared.Front.{Front}
 use Rattle.lbt.specs.Epochs.{Wins}
 use Rattle.lbt.specs.declared.Turn.{Turn}
 use Rattle.lbt.specs.declared.Turn.TheVariants.{Lost, Won, Spent}
@@ -38,7 +39,7 @@ tried (won t l o) = t
 pub data Turned (C : Cols) (s : State) (base allowance : ℕ) (marks cells : List ℕ) : Turn → Type 0 where
   is_lost : (n : ℕ) {t : ℕ} → Kept s marks cells → t ≡ base + n → t ≤ allowance → Says C (λ H. round_of H s ≡ lost n) →
       Turned C s base allowance marks cells (Lost t)
-  is_won : (n w : ℕ) {at top t : ℕ} → t ≡ base + n → t ≤ allowance → Whose C.writer s w → (x : Wins C w s (state_of marks cells at top)) →
-      Says C (λ H. round_of H s ≡ won n (ops H (left (state_of marks cells at top))) (ops H x.added.ops)) →
-      Turned C s base allowance marks cells (Won at top t)
+  is_won : (n w : ℕ) {front : Front} {t : ℕ} → t ≡ base + n → t ≤ allowance → Whose C.writer s w → (x : Wins C w s (state_of marks cells front.at front.top)) →
+      Says C (λ H. round_of H s ≡ won n (ops H (left (state_of marks cells front.at front.top))) (ops H x.added.ops)) →
+      Turned C s base allowance marks cells (Won front t)
   is_spent : Kept s marks cells → Says C (λ H. allowance < base + tried (round_of H s)) → Turned C s base allowance marks cells Spent

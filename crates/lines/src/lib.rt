@@ -38,7 +38,7 @@ pub fn put_order(answer: Answer, page: &[u64], out: &mut [u8], at: usize) -> usi
     requires rows_lt_places { answer.code ≡ 0 → answer.rows < places }
     ensures { Put (order_of answer page.now) out.old at result out.new }
 {
-    if answer.code != Answer::FRESH {
+    if answer.code != 0 {
         return at;
     }
     let next = text::put_bytes(b"order,", out, at);

@@ -7,8 +7,7 @@ use mathlib.Core.List.Memᴰ.{head as here}
 use mathlib.Core.List.Memᴰ.{tail as there}
 use mathlib.Core.List.{List, [], ◌∷◌, map, Memᴰ as In}
 use native.Mathlib.Omega.{arith}
-use Rattle.lists.specs.declared.Found.{Found}
-use Rattle.lists.specs.declared.Found.TheVariants.{At, Nothing}
+use Rattle.std.specs.Prelude.{Option, Some, None}
 use Rattle.lists.specs.Lists.{put, keep, any, first}
 use Rattle.lists.proofs.Tests.{Told, holds, fails}
 
@@ -54,11 +53,11 @@ module _ {A : Type 0} where
     pub first_ext : (key : A → ℕ) (l : List A) → ((x : A) → In x l → p x ≡ q x) → first key p l ≡ first key q l
     unfolding first
     first_ext key [] h = refl
-    first_ext key (x ∷ l) h = ap₂ (λ b r. cond b (At (key x)) r) (h x (here refl)) (first_ext key l (λ y m. h y (there m)))
+    first_ext key (x ∷ l) h = ap₂ (λ b r. cond b (Some (key x)) r) (h x (here refl)) (first_ext key l (λ y m. h y (there m)))
 
   -- one element more in front of a search
   module _ (p : A → Bool) (x : A) (l : List A) where
-    pub first_cons_hit : (key : A → ℕ) → p x ≡ true → first key p (x ∷ l) ≡ At (key x)
+    pub first_cons_hit : (key : A → ℕ) → p x ≡ true → first key p (x ∷ l) ≡ Some (key x)
     unfolding first
     first_cons_hit key e = rw e
 
@@ -89,17 +88,17 @@ module _ {A : Type 0} where
 
   -- the search finds nothing if and only if no element passes
   module _ (key : A → ℕ) (p : A → Bool) where
-    nothing_cons : (b : Bool) (n : ℕ) (r : Found) → cond b (At n) r ≡ Nothing → (b ≡ false) × (r ≡ Nothing)
+    nothing_cons : (b : Bool) (n : ℕ) (r : Option ℕ) → cond b (Some n) r ≡ None → (b ≡ false) × (r ≡ None)
     nothing_cons true n r e = let z : ◌≡◌ {A = ℕ} 0 1 = cc in absurd (omega arith)
     nothing_cons false n r e = (refl, e)
 
-    pub nothing_none : (l : List A) → first key p l ≡ Nothing → (x : A) → In x l → p x ≡ false
+    pub nothing_none : (l : List A) → first key p l ≡ None → (x : A) → In x l → p x ≡ false
     unfolding first
     nothing_none (y ∷ l) e x (here q) = ap p q ∙ (nothing_cons (p y) (key y) (first key p l) e).0
     nothing_none (y ∷ l) e x (there m) = nothing_none l (nothing_cons (p y) (key y) (first key p l) e).1 x m
     nothing_none [] e x x4 = elim x4 [ ]
 
-    pub none_nothing : (l : List A) → ((x : A) → In x l → p x ≡ false) → first key p l ≡ Nothing
+    pub none_nothing : (l : List A) → ((x : A) → In x l → p x ≡ false) → first key p l ≡ None
     unfolding first
     none_nothing [] h = refl
     none_nothing (y ∷ l) h = rw (h y (here refl)) (none_nothing l (λ x m. h x (there m)))
@@ -112,4 +111,4 @@ module _ {A : Type 0} where
 pub first_map : {A B : Type 0} (f : A → B) (key : B → ℕ) (p : B → Bool) (l : List A) → first key p (map f l) ≡ first (λ x. key (f x)) (λ x. p (f x)) l
 unfolding first
 first_map f key p [] = refl
-first_map f key p (x ∷ l) = ap (cond (p (f x)) (At (key (f x)))) (first_map f key p l)
+first_map f key p (x ∷ l) = ap (cond (p (f x)) (Some (key (f x)))) (first_map f key p l)

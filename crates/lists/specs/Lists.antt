@@ -1,8 +1,6 @@
 -- Lists, with tests that compute: the elements that pass, whether some or all pass, the first that passes, the numbers from one on.
 -- Assumes nothing.
-use Rattle.std.specs.Prelude.{ℕ, zero, suc, Bool, true, false, cond, ◌||◌, List, [], ◌∷◌}
-use Rattle.lists.specs.declared.Found.{Found}
-use Rattle.lists.specs.declared.Found.TheVariants.{At, Nothing}
+use Rattle.std.specs.Prelude.{ℕ, zero, suc, Bool, true, false, cond, ◌||◌, List, [], ◌∷◌, Option, Some, None}
 
 -- 1 for what holds, 0 for what does not: what it adds to a count
 abbrev pub one_if : Bool → ℕ
@@ -39,6 +37,6 @@ module _ {A : Type 0} where
   any p (x ∷ l) = p x || any p l
 
   -- where the first element that passes stands, by its key
-  unfoldable pub first : (A → ℕ) → (A → Bool) → List A → Found
-  first key p [] = Nothing
-  first key p (x ∷ l) = cond (p x) (At (key x)) (first key p l)
+  unfoldable pub first : (A → ℕ) → (A → Bool) → List A → Option ℕ
+  first key p [] = None
+  first key p (x ∷ l) = cond (p x) (Some (key x)) (first key p l)

@@ -1,8 +1,2 @@
-// What a search finds: the lowest place, or nothing. The definitions and laws of lists stand in specs/ and proofs/.
+// No code: the definitions of lists, of the tests and searches over them, and of sorts (specs/), and their laws (proofs/).
 #![tactic(auto)]
-
-#[derive(Clone, Copy)]
-pub enum Found {
-    At(usize),
-    Nothing,
-}

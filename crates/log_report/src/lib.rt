@@ -16,7 +16,7 @@ pub fn log(bytes: &[u8], out: &mut [u8]) -> Answer
 {
     let mut table = [0u64; Row::LARGEST_TABLE];
     let loaded = logs::load(bytes, &mut table);
-    if loaded.code != Answer::FRESH {
+    if loaded.code != 0 {
         return printing::refusal(loaded, out);
     }
     let n = (loaded.rows as usize) * Row::COLUMNS;

@@ -14,12 +14,10 @@ fn buffer() -> [u8; 1048577]
 
 fn main(rt: HostRuntime) {
     let mut input = buffer();
-    let got = console::take(&mut rt.stdin(), &mut input);
-    if !got.sound {
+    let Ok(n) = console::take(&mut rt.stdin(), &mut input) else {
         console::complain(&rt.stderr(), b"log: standard input cannot be read\n");
         return;
-    }
-    let n = got.count;
+    };
     if LONGEST < n {
         console::complain(
             &rt.stderr(),

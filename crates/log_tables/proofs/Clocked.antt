@@ -14,8 +14,7 @@ use Rattle.lists.specs.Lists.{all}
 use Rattle.lists.proofs.Maps.{in_map}
 use Rattle.history.specs.Table.{largest_stamp}
 use Rattle.text.specs.Decimal.{digit, digits, decimal}
-use Rattle.parsing.specs.declared.Number.{Number}
-use Rattle.parsing.specs.declared.Number.TheVariants.{Is, Nothing}
+use Rattle.std.specs.Prelude.{Option, Some, None}
 use Rattle.parsing.specs.Numbers.{is_digit, is_number}
 use Rattle.parsing.proofs.Back.{digits_digits}
 use Rattle.clock.specs.Clock.{time_of, clock_of, stamp_in}
@@ -35,12 +34,12 @@ use Rattle.log_tables.proofs.Grids.{place_below, loads_passes, loads_grid, loads
 use Rattle.log_tables.proofs.Stamps.{Stands, said_start, said_finish}
 
 -- a cell so written says the same
-as_clock_said : (t : List ℕ) (n : Number) → stamp_in t ≡ n → stamp_in (as_clock t n) ≡ n
+as_clock_said : (t : List ℕ) (n : Option ℕ) → stamp_in t ≡ n → stamp_in (as_clock t n) ≡ n
 unfolding as_clock
-as_clock_said t Nothing e = e
-as_clock_said t (Is s) e = go (ltb largest_stamp s) refl
+as_clock_said t None e = e
+as_clock_said t (Some s) e = go (ltb largest_stamp s) refl
   where
-    go : (b : Bool) → ltb largest_stamp s ≡ b → stamp_in (cond b t (clock_of s)) ≡ Is s
+    go : (b : Bool) → ltb largest_stamp s ≡ b → stamp_in (cond b t (clock_of s)) ≡ Some s
     go true f = e
     go false f = stamp_text s (ltb-false largest_stamp s f)
 
@@ -68,10 +67,10 @@ module _ (c : ℕ) (low : c < 46) where
   clock_free s =
       free_append c (digits 20 (s / 86400000)) (time_of s) (digits_free (digits 20 (s / 86400000)) (digits_digits 20 (s / 86400000))) (time_free s)
 
-  as_clock_free : (t : List ℕ) (n : Number) → Free c t → Free c (as_clock t n)
+  as_clock_free : (t : List ℕ) (n : Option ℕ) → Free c t → Free c (as_clock t n)
   unfolding as_clock
-  as_clock_free t Nothing f = f
-  as_clock_free t (Is s) f = go (ltb largest_stamp s)
+  as_clock_free t None f = f
+  as_clock_free t (Some s) f = go (ltb largest_stamp s)
     where
       go : (b : Bool) → Free c (cond b t (clock_of s))
       go true = f

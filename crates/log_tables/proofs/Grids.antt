@@ -11,7 +11,7 @@ use borrow.Author.Tests.{eq-eqb, lt-ltb, ltb-false, le-ltb, lt-leb, not-false}
 use lib.Dec.{ltb}
 use lib.ListN.{length, drop, length-append, length-map, length-drop}
 use lib.Seq.{drop-drop, drop-append-add}
-use Rattle.lists.specs.declared.Found.TheVariants.{Nothing}
+use Rattle.std.specs.Prelude.{None}
 use Rattle.lists.specs.Lists.{all, first}
 use Rattle.history.specs.declared.Answer.{Answer}
 use Rattle.history.specs.Table.{largest_count}
@@ -140,7 +140,7 @@ module _ (ps : Columns) (w : ℕ) (some : 0 < w) where
     row_count_lem : length (cells_of (part n at (joined r))) ≡ w
     row_count_lem = ap length row_cells ∙ length_laid 0 at r ∙ good.wide
 
-    row_quiet : first (λ p. p.at) (unreadable ps) (cells_of (part n at (joined r))) ≡ Nothing
+    row_quiet : first (λ p. p.at) (unreadable ps) (cells_of (part n at (joined r))) ≡ None
     row_quiet = ap (first (λ p. p.at) (unreadable ps)) row_cells ∙ said_told ps w r good.wide at good.said
 
   pub grid_quiet : (bs : List ℕ) (n at : ℕ) (rs : List (List (List ℕ))) → drop at bs ≡ text_of rs → n + length rs ≤ largest_count

@@ -11,7 +11,7 @@ use native.Mathlib.Omega.{arith}
 use borrow.Author.Tests.{eq-eqb, ne_eqb, eqb-true, eqb-false}
 use lib.Dec.{eqb}
 use lib.ListN.{length, get_or}
-use Rattle.lists.specs.declared.Found.TheVariants.{At, Nothing}
+use Rattle.std.specs.Prelude.{Some, None}
 use Rattle.lists.specs.Lists.{from, first}
 use Rattle.lists.specs.Pairs.{Pairs}
 use Rattle.lists.proofs.Pairs.{pairs_head, pairs_tail}
@@ -87,19 +87,19 @@ module _ {cs ps : Columns} {k j : ℕ} {o : List ℕ} (g : Places cs ps k (j ∷
 -- a line's cells c at the places of the order before it was rearranged
 module _ (cs ps : Columns) (c : ℕ → List ℕ) where
   pub said_quiet : (k at : ℕ) (o : List ℕ) → Places cs ps k o → ((j : ℕ) → In j o → is_number (said_in ps j (c j)) ≡ true)
-      → first (λ p. p.at) (unreadable cs) (laid k at (map c o)) ≡ Nothing
+      → first (λ p. p.at) (unreadable cs) (laid k at (map c o)) ≡ None
   unfolding first laid
   said_quiet k at [] g h = refl
   said_quiet k at (j ∷ o) g h = rw (said_placed g (c j), h j (here refl)) (said_quiet (suc k) (suc (at + length (c j))) o (places_tail g) (λ i m. h i (there m)))
 
-  pub quiet_said : (k at : ℕ) (o : List ℕ) → Places cs ps k o → first (λ p. p.at) (unreadable cs) (laid k at (map c o)) ≡ Nothing
+  pub quiet_said : (k at : ℕ) (o : List ℕ) → Places cs ps k o → first (λ p. p.at) (unreadable cs) (laid k at (map c o)) ≡ None
       → (j : ℕ) → In j o → is_number (said_in ps j (c j)) ≡ true
   unfolding first laid
   quiet_said k at (i ∷ o) g e j m =
       go (is_number (said_in cs k (c i))) refl e m (λ f n. quiet_said (suc k) (suc (at + length (c i))) o (places_tail g) f j n)
     where
-      go : (b : Bool) → is_number (said_in cs k (c i)) ≡ b → cond (not b) (At at) (first (λ p. p.at) (unreadable cs) (laid (suc k) (suc (at + length (c i))) (map c o))) ≡ Nothing
-          → In j (i ∷ o) → (first (λ p. p.at) (unreadable cs) (laid (suc k) (suc (at + length (c i))) (map c o)) ≡ Nothing → In j o → is_number (said_in ps j (c j)) ≡ true)
+      go : (b : Bool) → is_number (said_in cs k (c i)) ≡ b → cond (not b) (Some at) (first (λ p. p.at) (unreadable cs) (laid (suc k) (suc (at + length (c i))) (map c o))) ≡ None
+          → In j (i ∷ o) → (first (λ p. p.at) (unreadable cs) (laid (suc k) (suc (at + length (c i))) (map c o)) ≡ None → In j o → is_number (said_in ps j (c j)) ≡ true)
           → is_number (said_in ps j (c j)) ≡ true
       go true q e (here p) next = rw p (ap is_number (sym (said_placed g (c i))) ∙ q)
       go true q e (there n) next = next e n

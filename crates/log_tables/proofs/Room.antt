@@ -12,9 +12,8 @@ use Rattle.lists.proofs.Stores.{front_is, front_long, front_in}
 use Rattle.history.specs.declared.Answer.{Answer}
 use Rattle.history.specs.Table.{largest_count, row_count}
 use Rattle.history.specs.Answer.{Test, passed}
-use Rattle.history.proofs.Refusals.{NoFault, Coded, code_no_fault, no_fault_answer, if_not}
+use Rattle.history.proofs.Refusals.{NoFault, Coded, code_no_fault, no_fault_answer, if_not, met_stop, met_on}
 use Rattle.files.specs.Files.{room_test}
-use Rattle.files.proofs.Meeting.{met_stop, met_on}
 use Rattle.files.proofs.Calls.{after_fresh, code_of}
 use Rattle.parsing.specs.Numbers.{front}
 use Rattle.headers.specs.Header.{width, columns_of}

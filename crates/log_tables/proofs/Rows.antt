@@ -10,7 +10,7 @@ use native.Mathlib.Omega.{arith}
 use borrow.Author.Tests.{eqb-true, ltb-true, ltb-false}
 use lib.Dec.{eqb, ltb}
 use lib.ListN.{length, get_or, drop, length-map}
-use Rattle.lists.specs.declared.Found.TheVariants.{At, Nothing}
+use Rattle.std.specs.Prelude.{Some, None}
 use Rattle.lists.specs.Lists.{up_to, first}
 use Rattle.lists.proofs.Members.{in_keep}
 use Rattle.lists.proofs.Maps.{map_in}
@@ -46,10 +46,10 @@ module _ (ps : Columns) (w : ℕ) where
     in_places : laid 0 at r ≡ laid 0 at (map (λ j. get_or r j []) (up_to w))
     in_places = ap (laid 0 at) (sym (each_cell r) ∙ ap (λ (k : ℕ). map (λ j. get_or r j []) (up_to k)) wide)
 
-    pub told_said : first (λ p. p.at) (unreadable ps) (laid 0 at r) ≡ Nothing → (j : ℕ) → j < w → is_number (said_in ps j (get_or r j [])) ≡ true
+    pub told_said : first (λ p. p.at) (unreadable ps) (laid 0 at r) ≡ None → (j : ℕ) → j < w → is_number (said_in ps j (get_or r j [])) ≡ true
     told_said e j h = quiet_said ps ps (λ j. get_or r j []) 0 at (up_to w) same_places (ap (first (λ p. p.at) (unreadable ps)) (sym in_places) ∙ e) j (below_in w h)
 
-    pub said_told : ((j : ℕ) → j < w → is_number (said_in ps j (get_or r j [])) ≡ true) → first (λ p. p.at) (unreadable ps) (laid 0 at r) ≡ Nothing
+    pub said_told : ((j : ℕ) → j < w → is_number (said_in ps j (get_or r j [])) ≡ true) → first (λ p. p.at) (unreadable ps) (laid 0 at r) ≡ None
     said_told s = ap (first (λ p. p.at) (unreadable ps)) in_places ∙ said_quiet ps ps (λ j. get_or r j []) 0 at (up_to w) same_places (λ j m. s j (in_below w m))
 
 -- The lines of a log that loads.
@@ -59,7 +59,7 @@ module _ (bs : List ℕ) (ps : Columns) (w : ℕ) where
     unfolding line_tests
     line_wide = go (eqb (length (cells_of l)) w) refl quiet.1.1.0
       where
-        go : (b : Bool) → eqb (length (cells_of l)) w ≡ b → cond (not b) (At l.at) Nothing ≡ Nothing → length (cells_of l) ≡ w
+        go : (b : Bool) → eqb (length (cells_of l)) w ≡ b → cond (not b) (Some l.at) None ≡ None → length (cells_of l) ≡ w
         go true e q = eqb-true (length (cells_of l)) w e
         go false e q = let z : ◌≡◌ {A = ℕ} 0 1 = cc in absurd (omega arith)
 

@@ -8,7 +8,7 @@ use native.Mathlib.Omega.{arith}
 use borrow.Author.Tests.{leb-false}
 use lib.Dec.{leb}
 use lib.ListN.{length}
-use Rattle.lists.specs.declared.Found.TheVariants.{At, Nothing}
+use Rattle.std.specs.Prelude.{Some, None}
 use Rattle.history.specs.Table.{largest_count}
 use Rattle.history.proofs.Refusals.{NoFault, Coded, coded_append}
 use Rattle.cells.specs.Parts.{Part}
@@ -34,7 +34,7 @@ module _ (bs : List ℕ) (cs : Columns) (w : ℕ) where
   unfolding line_tests
   line_few l h = go (leb largest_count l.number) refl h.0
     where
-      go : (b : Bool) → leb largest_count l.number ≡ b → cond b (At l.at) Nothing ≡ Nothing → l.number < largest_count
+      go : (b : Bool) → leb largest_count l.number ≡ b → cond b (Some l.at) None ≡ None → l.number < largest_count
       go true e q = let z : ◌≡◌ {A = ℕ} 0 1 = cc in absurd (omega arith)
       go false e q = leb-false largest_count l.number e
 

@@ -10,7 +10,7 @@ use native.Mathlib.Omega.{arith}
 use borrow.Author.Tests.{ltb-true, ltb-false}
 use lib.Dec.{ltb}
 use lib.ListN.{length, drop, drop_of_length-le}
-use Rattle.lists.specs.declared.Found.TheVariants.{At, Nothing}
+use Rattle.std.specs.Prelude.{Some, None}
 use Rattle.lists.specs.Lists.{up_to}
 use Rattle.history.specs.Answer.{Test}
 use Rattle.history.proofs.Refusals.{NoFault, no_fault_left, no_fault_right}
@@ -46,7 +46,7 @@ module _ (bs : List ℕ) (cs : Columns) (w : ℕ) where
   unfolding line_tests
   line_ends l q = go (ltb (l.at + length l.bytes) (length bs)) refl q.1.0
     where
-      go : (b : Bool) → ltb (l.at + length l.bytes) (length bs) ≡ b → cond (not b) (At l.at) Nothing ≡ Nothing
+      go : (b : Bool) → ltb (l.at + length l.bytes) (length bs) ≡ b → cond (not b) (Some l.at) None ≡ None
           → l.at + length l.bytes < length bs
       go true e q = ltb-true (l.at + length l.bytes) (length bs) e
       go false e q = let z : ◌≡◌ {A = ℕ} 0 1 = cc in absurd (omega arith)

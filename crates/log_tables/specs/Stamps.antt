@@ -1,9 +1,7 @@
 -- Stamps as clock time in a log that loads, and the log with its stamps so written (document 02, W-205).
 -- Assumes nothing.
-use Rattle.std.specs.Prelude.{ℕ, suc, ◌≤◌, ◌<◌, ◌≡◌, cond, ◌||◌, List, [], ◌∷◌, map, eqb, ltb, length, get_or}
+use Rattle.std.specs.Prelude.{ℕ, suc, ◌≤◌, ◌<◌, ◌≡◌, cond, ◌||◌, List, [], ◌∷◌, map, eqb, ltb, length, get_or, Option, Some, None}
 use Rattle.history.specs.Table.{largest_stamp, cell}
-use Rattle.parsing.specs.declared.Number.{Number}
-use Rattle.parsing.specs.declared.Number.TheVariants.{Is, Nothing}
 use Rattle.clock.specs.Clock.{clock_of, stamp_in}
 use Rattle.cells.specs.Grids.{bytes_of, text_of}
 use Rattle.headers.specs.declared.Columns.{Columns}
@@ -21,9 +19,9 @@ pub record LoadsStamps (bs table : List ℕ) : Type 0 where
   pub finish : (i s : ℕ) → i < length (data_lines bs) → s ≤ largest_stamp → line_cell bs i (columns_of bs).finish ≡ clock_of s → cell table i 4 ≡ s
 
 -- a cell as the clock time of the number that it says; as it is, where that is no stamp
-unfoldable pub as_clock : List ℕ → Number → List ℕ
-as_clock t Nothing = t
-as_clock t (Is s) = cond (ltb largest_stamp s) t (clock_of s)
+unfoldable pub as_clock : List ℕ → Option ℕ → List ℕ
+as_clock t None = t
+as_clock t (Some s) = cond (ltb largest_stamp s) t (clock_of s)
 
 -- the cell of column k so written, where it is a start or a finish
 abbrev pub clock_cell : Columns → ℕ → List ℕ → List ℕ

@@ -12,10 +12,10 @@ use lib.ListN.{length, take, drop}
 use lib.Seq.{take_at, length-sets}
 use Rattle.lists.proofs.Stores.{sets_front}
 use Rattle.history.specs.declared.Answer.{Answer}
-use Rattle.history.specs.Answer.{Test, short_list, if_so, first_met, passed, refused_by}
-use Rattle.history.proofs.Refusals.{code_no_fault, no_fault_answer}
+use Rattle.history.specs.Answer.{Test, if_so, first_met, passed, refused_by}
+use Rattle.history.specs.declared.Code.TheVariants.{ShortList}
+use Rattle.history.proofs.Refusals.{code_no_fault, no_fault_answer, met_stop, met_on}
 use Rattle.files.specs.Files.{room_test, after}
-use Rattle.files.proofs.Meeting.{met_stop, met_on}
 use Rattle.files.proofs.Calls.{after_refused, after_fresh, code_of}
 use Rattle.parsing.specs.Numbers.{front}
 use Rattle.cells.specs.Parts.{Part, lines_from}
@@ -37,7 +37,7 @@ room_passed : (needed room rows : ℕ) → (first_met (room_test needed room ∷
 unfolding first_met
 room_passed needed room rows z = go (ltb room needed) refl z
   where
-    go : (b : Bool) → ltb room needed ≡ b → (first_met (record { code = short_list; fault = if_so b } ∷ []) (passed rows)).code ≡ 0 → needed ≤ room
+    go : (b : Bool) → ltb room needed ≡ b → (first_met (record { code = ShortList; fault = if_so b } ∷ []) (passed rows)).code ≡ 0 → needed ≤ room
     go true e z = absurd (omega arith)
     go false e z = ltb-false room needed e
 
@@ -92,13 +92,13 @@ module _ (bs : List ℕ) (cs : Columns) (w start : ℕ) (old new : List ℕ) (fo
       pub answer_refused : answer.code ≢ 0 → table ≡ after answer (rows_of cs (lines_from bs 0 start)) table
       answer_refused c = sym (after_refused answer (rows_of cs ls) table c)
 
-      pub answer_room : answer.code ≡ 0 → length (take (found.rows * 5) new) ≤ length table
+      pub answer_room : answer.code ≡ 0 → found.rows * 5 ≤ length table
       answer_room y = omega (arith, found_long, room_passed (found.rows * 5) (length table) found.rows (code_of (sym judged) y))
 
-      pub answer_copied : answer.code ≡ 0 → (out : List ℕ) → out ≡ take (found.rows * 5) new ++ drop (length (take (found.rows * 5) new)) table
+      pub answer_copied : answer.code ≡ 0 → (out : List ℕ) → out ≡ take (found.rows * 5) new ++ drop (found.rows * 5) table
           → out ≡ after answer (rows_of cs (lines_from bs 0 start)) table
       answer_copied y out e =
-          e ∙ ap (λ (l : List ℕ). l ++ drop (length l) table) found_front ∙ sym (after_fresh answer (rows_of cs ls) table y)
+          e ∙ ap (λ (k : ℕ). take (found.rows * 5) new ++ drop k table) found_long ∙ ap (λ (l : List ℕ). l ++ drop (length l) table) found_front ∙ sym (after_fresh answer (rows_of cs ls) table y)
 
 -- the whole call
 module _ (bs table : List ℕ) where

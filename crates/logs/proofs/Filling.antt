@@ -8,7 +8,7 @@ use native.Mathlib.Omega.{arith}
 use borrow.Author.Tests.{ne_eqb, eqb-true, eqb-false}
 use lib.Dec.{eqb}
 use lib.ListN.{length, get_or}
-use Rattle.parsing.specs.declared.Number.TheVariants.{Is}
+use Rattle.std.specs.Prelude.{Some}
 use Rattle.parsing.specs.Numbers.{number_of}
 use Rattle.clock.specs.Clock.{stamp_in}
 use Rattle.clock.proofs.Forms.{stamp_none}
@@ -25,7 +25,7 @@ module _ (cs : Columns) where
   unfolding said_in amount kind_of number_of
   none_said k = go (eqb k cs.kind) (eqb k cs.register) (eqb k cs.value) (eqb k cs.start) (eqb k cs.finish)
     where
-      go : (a b c d e : Bool) → amount (cond a (kind_of []) (cond b (number_of []) (cond c (number_of []) (cond d (stamp_in []) (cond e (stamp_in []) (Is 0)))))) ≡ 0
+      go : (a b c d e : Bool) → amount (cond a (kind_of []) (cond b (number_of []) (cond c (number_of []) (cond d (stamp_in []) (cond e (stamp_in []) (Some 0)))))) ≡ 0
       go true b c d e = refl
       go false true c d e = refl
       go false false true d e = refl

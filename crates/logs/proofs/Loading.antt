@@ -8,14 +8,13 @@ use native.Mathlib.Nat.{zero-add}
 use native.Mathlib.Omega.{arith}
 use lib.ListN.{length, drop, length-drop}
 use lib.Seq.{sets}
-use Rattle.lists.specs.declared.Found.TheVariants.{Nothing}
+use Rattle.std.specs.Prelude.{None}
 use Rattle.history.specs.declared.Answer.{Answer}
 use Rattle.history.specs.declared.Row.{Row}
 use Rattle.history.specs.Table.{largest_count}
 use Rattle.history.specs.Answer.{Test, first_met, passed}
-use Rattle.history.proofs.Refusals.{NoFault, code_no_fault, no_fault_answer, met_append}
+use Rattle.history.proofs.Refusals.{NoFault, code_no_fault, no_fault_answer, met_append, met_kept}
 use Rattle.records.specs.Records.{cells}
-use Rattle.files.proofs.Meeting.{met_kept}
 use Rattle.text.proofs.Putting.{Putting, put_none, put_more, put_all}
 use Rattle.parsing.specs.Numbers.{front}
 use Rattle.parsing.proofs.Lines.{front_length}
@@ -32,7 +31,7 @@ use Rattle.logs.specs.Steps.{no_row, walked, walked_tests, found_in, LinesTested
 
 module _ (bs : List ℕ) (cs : Columns) (w : ℕ) where
   -- the tests of a line that was walked are the line's
-  line_tests_lem : (n at : ℕ) → walked_tests (length bs) n w at (walked bs cs no_row 0 at Nothing) ≡ line_tests bs cs w (part n at (front (drop at bs)))
+  line_tests_lem : (n at : ℕ) → walked_tests (length bs) n w at (walked bs cs no_row 0 at None) ≡ line_tests bs cs w (part n at (front (drop at bs)))
   unfolding line_tests walked_tests walked cells_from
   line_tests_lem n at = rw (zero-add (length (cells_of (part n at (front (drop at bs))))))
 
@@ -69,7 +68,7 @@ module _ (bs : List ℕ) (cs : Columns) (w : ℕ) where
             stored = λ z. all.1;
           }
 
-      module _ (inside : at < length bs) (line : Line) (e : line ≡ walked bs cs no_row 0 at Nothing)
+      module _ (inside : at < length bs) (line : Line) (e : line ≡ walked bs cs no_row 0 at None)
           (answer : Answer) (judged : answer ≡ first_met (walked_tests (length bs) n w at line) (passed 0)) where
         here : Part
         here = part n at (front (drop at bs))

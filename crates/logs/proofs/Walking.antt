@@ -6,12 +6,9 @@ use mathlib.Core.Bool.{Bool, true, false, cond, not}
 use mathlib.Core.List.{List}
 use native.Mathlib.Omega.{arith}
 use lib.ListN.{length}
-use Rattle.lists.specs.declared.Found.{Found}
-use Rattle.lists.specs.declared.Found.TheVariants.{At, Nothing}
 use Rattle.lists.specs.Lists.{first}
 use Rattle.history.specs.declared.Row.{Row}
-use Rattle.parsing.specs.declared.Number.{Number}
-use Rattle.parsing.specs.declared.Number.TheVariants.{Is}
+use Rattle.std.specs.Prelude.{Option, Some, None, unwrap_or}
 use Rattle.parsing.specs.Numbers.{is_number}
 use Rattle.cells.specs.declared.Cell.{Cell}
 use Rattle.cells.specs.Parts.{Part}
@@ -24,31 +21,31 @@ use Rattle.log_tables.specs.Logs.{said_in, unreadable, amount}
 use Rattle.logs.specs.Steps.{SaysDecimal, in_column, row_from, with_cell, or_else, walked}
 
 -- a line walked
-line_is : (r s : Row) (m n e f : ℕ) (a b : Found) → r ≡ s → m ≡ n → e ≡ f → a ≡ b
+line_is : (r s : Row) (m n e f : ℕ) (a b : Option ℕ) → r ≡ s → m ≡ n → e ≡ f → a ≡ b
     → ◌≡◌ {A = Line} (record { row = r; count = m; end = e; fault = a }) (record { row = s; count = n; end = f; fault = b })
 line_is r s m n e f a b p q u v = cc
 
 -- what cannot be read, in two steps
-or_step : (f : Found) (u : Bool) (at : ℕ) (g : Found) → or_else f (cond u (At at) g) ≡ or_else (or_else f (cond u (At at) Nothing)) g
-or_step (At n) u at g = refl
-or_step Nothing true at g = refl
-or_step Nothing false at g = refl
+or_step : (f : Option ℕ) (u : Bool) (at : ℕ) (g : Option ℕ) → or_else f (cond u (Some at) g) ≡ or_else (or_else f (cond u (Some at) None)) g
+or_step (Some n) u at g = refl
+or_step None true at g = refl
+or_step None false at g = refl
 
 module _ (bs : List ℕ) (cs : Columns) where
   -- the line from a cell on, behind the row, the count and the fault of the cells before, gives what the whole walk gives
-  pub record Walking (whole : Line) (r : Row) (f : Found) (k at : ℕ) : Type 0 where
+  pub record Walking (whole : Line) (r : Row) (f : Option ℕ) (k at : ℕ) : Type 0 where
     pub within : at ≤ length bs
     pub count : k ≤ at
     pub rest : whole ≡ walked bs cs r k at f
 
-  pub walk_none : (r : Row) (k at : ℕ) → k ≤ at → at ≤ length bs → Walking (walked bs cs r k at Nothing) r Nothing k at
+  pub walk_none : (r : Row) (k at : ℕ) → k ≤ at → at ≤ length bs → Walking (walked bs cs r k at None) r None k at
   walk_none r k at c h = record { within = h; count = c; rest = refl }
 
   -- a cell that was read, its number, and the row and the fault with it
-  module _ (whole : Line) (r : Row) (f : Found) (k at : ℕ) (g : Walking whole r f k at)
+  module _ (whole : Line) (r : Row) (f : Option ℕ) (k at : ℕ) (g : Walking whole r f k at)
       (cell : Cell) (read : cell ≡ saying bs at (said_in cs k (cell_at bs at)))
       (x : ℕ) (worth : x ≡ amount cell.number) (row : Row) (filled : row ≡ with_cell cs r k x)
-      (fault : Found) (found : fault ≡ or_else f (cond (not (is_number cell.number)) (At at) Nothing)) where
+      (fault : Option ℕ) (found : fault ≡ or_else f (cond (not (is_number cell.number)) (Some at) None)) where
     number : cell.number ≡ said_in cs k (cell_at bs at)
     number = ap (λ (y : Cell). y.number) read
 
@@ -58,8 +55,8 @@ module _ (bs : List ℕ) (cs : Columns) where
     row_is : row ≡ with_cell cs r k (amount (said_in cs k (cell_at bs at)))
     row_is = filled ∙ ap (with_cell cs r k) (worth ∙ ap amount number)
 
-    fault_is : fault ≡ or_else f (cond (not (is_number (said_in cs k (cell_at bs at)))) (At at) Nothing)
-    fault_is = found ∙ ap (λ (n : Number). or_else f (cond (not (is_number n)) (At at) Nothing)) number
+    fault_is : fault ≡ or_else f (cond (not (is_number (said_in cs k (cell_at bs at)))) (Some at) None)
+    fault_is = found ∙ ap (λ (n : Option ℕ). or_else f (cond (not (is_number n)) (Some at) None)) number
 
     pub walk_on : comma_at bs cell.end ≡ true → cell.end < length bs
     walk_on is = comma_within bs at cell.end ends is
@@ -98,7 +95,7 @@ module _ (bs : List ℕ) (cs : Columns) where
         (ap (λ (ps : List Part). or_else f (first (λ p. p.at) (unreadable cs) ps)) c)))
 
   -- a cell that was read as a number says it, and is no fault
-  module _ (k at : ℕ) (cell : Cell) (g : SaysDecimal bs at cs k cell) (x : ℕ) (is : cell.number ≡ Is x) where
+  module _ (k at : ℕ) (cell : Cell) (g : SaysDecimal bs at cs k cell) (x : ℕ) (is : cell.number ≡ Some x) where
     pub decimal_read : cell ≡ saying bs at (said_in cs k (cell_at bs at))
     decimal_read = cell_is _ _ _ _ g.ends (is ∙ sym (g.said x is))
 
@@ -106,6 +103,12 @@ module _ (bs : List ℕ) (cs : Columns) where
     unfolding amount
     decimal_worth = sym (ap amount is)
 
-    pub decimal_sound : Nothing ≡ or_else Nothing (cond (not (is_number cell.number)) (At at) Nothing)
+    pub decimal_sound : None ≡ or_else None (cond (not (is_number cell.number)) (Some at) None)
     unfolding is_number
-    decimal_sound = sym (ap (λ (n : Number). or_else Nothing (cond (not (is_number n)) (At at) Nothing)) is)
+    decimal_sound = sym (ap (λ (n : Option ℕ). or_else None (cond (not (is_number n)) (Some at) None)) is)
+
+-- the number that a cell is worth
+pub amount_or : (n : Option ℕ) → unwrap_or n 0 ≡ amount n
+unfolding amount
+amount_or (Some x) = refl
+amount_or None = refl

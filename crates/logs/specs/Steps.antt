@@ -1,17 +1,15 @@
 -- What the steps of loading give, each behind what the steps before gave.
 -- Assumes nothing.
-use Rattle.std.specs.Prelude.{ℕ, ◌+◌, ◌*◌, ◌≤◌, ◌≡◌, Bool, true, cond, not, ltb, leb, eqb, length, drop}
+use Rattle.std.specs.Prelude.{ℕ, ◌+◌, ◌*◌, ◌≤◌, ◌≡◌, Bool, true, cond, not, ltb, leb, eqb, length, drop, Some, Option, None}
 use mathlib.Core.List.{List, [], ◌∷◌, ◌++◌, flat_map}
 use Rattle.std.proofs.lemmas.List.Edits.{sets}
-use Rattle.lists.specs.declared.Found.{Found}
-use Rattle.lists.specs.declared.Found.TheVariants.{At, Nothing}
 use Rattle.lists.specs.Lists.{first}
 use Rattle.history.specs.declared.Answer.{Answer}
 use Rattle.history.specs.declared.Row.{Row}
 use Rattle.history.specs.Table.{largest_count}
-use Rattle.history.specs.Answer.{overfull, unreadable_cell, Test, test, first_met, passed}
+use Rattle.history.specs.Answer.{Test, test, first_met, passed}
+use Rattle.history.specs.declared.Code.TheVariants.{Overfull, UnreadableCell}
 use Rattle.files.specs.Files.{room_test, after}
-use Rattle.parsing.specs.declared.Number.TheVariants.{Is}
 use Rattle.parsing.specs.Numbers.{front}
 use Rattle.cells.specs.Parts.{Part, lines_from}
 use Rattle.cells.specs.declared.Cell.{Cell}
@@ -28,7 +26,7 @@ holds_number cs k =
 -- A cell at an offset, read in column k without clock time: where it ends and, where it was read, what it says.
 pub record SaysDecimal (bs : List ℕ) (at : ℕ) (cs : Columns) (k : ℕ) (cell : Cell) : Type 0 where
   pub ends : cell.end ≡ end_of bs at
-  pub said : (x : ℕ) → cell.number ≡ Is x → said_in cs k (cell_at bs at) ≡ Is x
+  pub said : (x : ℕ) → cell.number ≡ Some x → said_in cs k (cell_at bs at) ≡ Some x
 
 -- the number in column c of some cells; x where they have no such column
 unfoldable pub in_column : Columns → ℕ → ℕ → List Part → ℕ
@@ -61,13 +59,13 @@ with_cell cs r k x =
     }
 
 -- the first of two places, where there is one
-abbrev pub or_else : Found → Found → Found
-or_else (At n) g = At n
-or_else Nothing g = g
+abbrev pub or_else : Option ℕ → Option ℕ → Option ℕ
+or_else (Some n) g = Some n
+or_else None g = g
 
 -- A line walked from a cell on, numbered k, at an offset: its row, its cells, its end and its first cell that cannot be read, behind those of the
 -- cells before.
-unfoldable pub walked : List ℕ → Columns → Row → ℕ → ℕ → Found → Line
+unfoldable pub walked : List ℕ → Columns → Row → ℕ → ℕ → Option ℕ → Line
 walked bs cs r k at fault =
     let ps = cells_from bs k at in
     record {
@@ -80,10 +78,10 @@ walked bs cs r k at fault =
 -- The tests of the data line numbered n that was walked, at an offset, in a text of some size and a log of w columns.
 unfoldable pub walked_tests : ℕ → ℕ → ℕ → ℕ → Line → List Test
 walked_tests size n w at line =
-    test overfull (at_line at (leb largest_count n))
-    ∷ test unreadable_cell (at_line at (not (ltb line.end size)))
-    ∷ test unreadable_cell (at_line at (not (eqb line.count w)))
-    ∷ test unreadable_cell line.fault
+    test Overfull (at_line at (leb largest_count n))
+    ∷ test UnreadableCell (at_line at (not (ltb line.end size)))
+    ∷ test UnreadableCell (at_line at (not (eqb line.count w)))
+    ∷ test UnreadableCell line.fault
     ∷ []
 
 -- The answer of the data lines alone, which start at an offset: in a table with room for them, and in one of some places.

@@ -1,23 +1,20 @@
 // Logs with named columns, loaded into a table. A refused call leaves the table as it was.
 #![tactic(auto)]
 
-ghost use Rattle.std.specs.Prelude.{◌≡◌, cond, not, ◌++◌, ◌+◌, ◌*◌, ◌≤◌, eqb, length, drop};
+ghost use Rattle.std.specs.Prelude.{◌≡◌, cond, not, ◌+◌, ◌*◌, ◌≤◌, eqb, length};
 ghost use Rattle.std.proofs.lemmas.List.Edits.{sets};
-ghost use Rattle.lists.specs.declared.Found.TheVariants.{At, Nothing};
 ghost use Rattle.history.specs.Answer.{first_met, passed};
 ghost use Rattle.records.specs.Records.{cells};
 ghost use Rattle.parsing.specs.Numbers.{is_number};
 ghost use Rattle.cells.specs.Steps.{cell_at, saying};
-ghost use Rattle.log_tables.specs.Logs.{said_in, amount, Loads};
+ghost use Rattle.log_tables.specs.Logs.{said_in, Loads};
 ghost use Rattle.log_tables.specs.Shuffled.{LoadsAlike};
 ghost use Rattle.log_tables.specs.Stamps.{LoadsStamps, LoadsClocked};
 ghost use Rattle.logs.specs.Steps.{holds_number, SaysDecimal, no_row, with_cell, or_else, walked, walked_tests, LinesTested, LinesLoaded};
 
 use cells::Cell;
 use headers::Columns;
-use history::{Answer, Row};
-use lists::Found;
-use parsing::Number;
+use history::{Answer, Code, Row};
 
 // A line that was walked: its row, the count of its cells, where it ends, and its first cell that cannot be read.
 #[derive(Clone, Copy)]
@@ -25,7 +22,17 @@ pub struct Line {
     row: Row,
     count: usize,
     end: usize,
-    fault: Found,
+    fault: Option<usize>,
+}
+
+// A cell in a column that is not needed: whatever it holds says 0.
+fn skipped_cell(bytes: &[u8], at: usize) -> Cell
+    ensures { result ≡ saying bytes.now at (Some 0) }
+{
+    Cell {
+        end: cells::cell_end(bytes, at),
+        number: Some(0),
+    }
 }
 
 // What the cell at `at` says in column k.
@@ -33,23 +40,13 @@ fn read_cell(bytes: &[u8], at: usize, columns: Columns, k: usize) -> Cell
     ensures { result ≡ saying bytes.now at (said_in columns k (cell_at bytes.now at)) }
 {
     if k == columns.kind {
-        return cells::kind_cell(bytes, at);
-    }
-    if k == columns.register {
-        return cells::number_cell(bytes, at);
-    }
-    if k == columns.value {
-        return cells::number_cell(bytes, at);
-    }
-    if k == columns.start {
-        return cells::stamp_cell(bytes, at);
-    }
-    if k == columns.finish {
-        return cells::stamp_cell(bytes, at);
-    }
-    Cell {
-        end: cells::cell_end(bytes, at),
-        number: Number::Is(0),
+        cells::kind_cell(bytes, at)
+    } else if k == columns.register || k == columns.value {
+        cells::number_cell(bytes, at)
+    } else if k == columns.start || k == columns.finish {
+        cells::stamp_cell(bytes, at)
+    } else {
+        skipped_cell(bytes, at)
     }
 }
 
@@ -57,16 +54,7 @@ fn read_cell(bytes: &[u8], at: usize, columns: Columns, k: usize) -> Cell
 fn holds_number(columns: Columns, k: usize) -> bool
     ensures { result ≡ holds_number columns k }
 {
-    if k == columns.register {
-        return true;
-    }
-    if k == columns.value {
-        return true;
-    }
-    if k == columns.start {
-        return true;
-    }
-    k == columns.finish
+    k == columns.register || k == columns.value || k == columns.start || k == columns.finish
 }
 
 // What the cell at `at` says in column k, unless a stamp is clock time.
@@ -74,33 +62,18 @@ fn decimal_cell(bytes: &[u8], at: usize, columns: Columns, k: usize) -> Cell
     ensures { SaysDecimal bytes.now at columns k result }
 {
     if k == columns.kind {
-        return cells::kind_cell(bytes, at);
-    }
-    if holds_number(columns, k) {
-        return cells::number_cell(bytes, at);
-    }
-    Cell {
-        end: cells::cell_end(bytes, at),
-        number: Number::Is(0),
-    }
-}
-
-fn amount(number: Number) -> u64
-    ensures { result ≡ amount number }
-{
-    match number {
-        Number::Is(x) => x,
-        Number::Nothing => 0,
+        cells::kind_cell(bytes, at)
+    } else if holds_number(columns, k) {
+        cells::number_cell(bytes, at)
+    } else {
+        skipped_cell(bytes, at)
     }
 }
 
 fn picked(k: usize, column: usize, x: u64, old: u64) -> u64
     ensures { result ≡ cond (eqb k column) x old }
 {
-    if k == column {
-        return x;
-    }
-    old
+    if k == column { x } else { old }
 }
 
 // A row with the number of column k.
@@ -117,40 +90,37 @@ fn with_cell(row: Row, columns: Columns, k: usize, x: u64) -> Row
 }
 
 // The first cell that cannot be read, behind one cell more.
-fn fault_at(fault: Found, number: Number, at: usize) -> Found
-    ensures { result ≡ or_else fault (cond (not (is_number number)) (At at) Nothing) }
+fn fault_at(fault: Option<usize>, number: Option<u64>, at: usize) -> Option<usize>
+    ensures { result ≡ or_else fault (cond (not (is_number number)) (Some at) None) }
 {
-    let Found::Nothing = fault else {
-        return fault;
-    };
-    match number {
-        Number::Is(_) => Found::Nothing,
-        Number::Nothing => Found::At(at),
+    match (fault, number) {
+        (None, None) => Some(at),
+        _ => fault,
     }
 }
 
 // Walks the line from the cell at `at` on, whose column is `count`, behind the row of the cells before it.
 fn walk_on(bytes: &[u8], columns: Columns, begun: Row, count: usize, at: usize) -> Line
     requires { (count ≤ at) × (at ≤ length bytes.now) }
-    ensures { result ≡ walked bytes.now columns begun count at Nothing }
+    ensures { result ≡ walked bytes.now columns begun count at None }
 {
     let mut row = begun;
-    let mut fault = Found::Nothing;
+    let mut fault = None;
     let mut k = count;
     let mut from = at;
+    // The next cell begins behind the comma that ends this one.
     loop {
         let cell = read_cell(bytes, from, columns, k);
-        let number = cell.number;
         let end = cell.end;
-        row = with_cell(row, columns, k, amount(number));
-        fault = fault_at(fault, number, from);
+        row = with_cell(row, columns, k, cell.number.unwrap_or(0));
+        fault = fault_at(fault, cell.number, from);
         k += 1;
         if !cells::comma_at(bytes, end) {
             return Line {
-                row: row,
+                row,
                 count: k,
-                end: end,
-                fault: fault,
+                end,
+                fault,
             };
         }
         from = end + 1;
@@ -161,7 +131,7 @@ fn walk_on(bytes: &[u8], columns: Columns, begun: Row, count: usize, at: usize) 
 // processor's registers; from the first other cell on `walk_on` goes on.
 fn walk(bytes: &[u8], columns: Columns, at: usize) -> Line
     requires { at ≤ length bytes.now }
-    ensures { result ≡ walked bytes.now columns no_row 0 at Nothing }
+    ensures { result ≡ walked bytes.now columns no_row 0 at None }
 {
     let mut row = Row {
         register: 0,
@@ -172,21 +142,21 @@ fn walk(bytes: &[u8], columns: Columns, at: usize) -> Line
     };
     let mut k = 0;
     let mut from = at;
+    // The next cell begins behind the comma that ends this one.
     loop {
         let cell = decimal_cell(bytes, from, columns, k);
-        let number = cell.number;
         let end = cell.end;
-        let Number::Is(x) = number else {
+        let Some(x) = cell.number else {
             return walk_on(bytes, columns, row, k, from);
         };
         row = with_cell(row, columns, k, x);
         k += 1;
         if !cells::comma_at(bytes, end) {
             return Line {
-                row: row,
+                row,
                 count: k,
-                end: end,
-                fault: Found::Nothing,
+                end,
+                fault: None,
             };
         }
         from = end + 1;
@@ -198,18 +168,17 @@ fn judge(size: usize, number: usize, width: usize, at: usize, line: Line) -> Ans
     ensures { result ≡ first_met (walked_tests size number width at line) (passed 0) }
 {
     if Row::LARGEST_COUNT <= number {
-        return Answer::refused(Answer::OVERFULL, at as u64);
+        return Code::Overfull.at(at as u64);
     }
     if size <= line.end {
-        return Answer::refused(Answer::UNREADABLE_CELL, at as u64);
+        return Code::UnreadableCell.at(at as u64);
     }
     if line.count != width {
-        return Answer::refused(Answer::UNREADABLE_CELL, at as u64);
+        return Code::UnreadableCell.at(at as u64);
     }
-    let fault = line.fault;
-    match fault {
-        Found::At(cell) => Answer::refused(Answer::UNREADABLE_CELL, cell as u64),
-        Found::Nothing => Answer::passed(0),
+    match line.fault {
+        Some(cell) => Code::UnreadableCell.at(cell as u64),
+        None => Answer::passed(0),
     }
 }
 
@@ -219,11 +188,8 @@ fn put_row(table: &mut [u64], n: usize, row: Row)
     ensures { table.new ≡ sets table.old (n * 5) (cells row) }
 {
     let base = n * Row::COLUMNS;
-    table[base + Row::REGISTER] = row.register;
-    table[base + Row::KIND] = row.kind;
-    table[base + Row::VALUE] = row.value;
-    table[base + Row::START] = row.start;
-    table[base + Row::FINISH] = row.finish;
+    let cells = [row.register, row.kind, row.value, row.start, row.finish];
+    table[base..base + Row::COLUMNS].copy_from_slice(&cells);
 }
 
 // The tests of the data lines, in sequence, whose rows go to the front of a table of 1,024 rows.
@@ -233,31 +199,18 @@ fn lines(bytes: &[u8], columns: Columns, width: usize, start: usize, table: &mut
 {
     let mut at = start;
     let mut n = 0;
+    // The next line begins behind the end of this one.
     while at < bytes.len() {
         let line = walk(bytes, columns, at);
         let answer = judge(bytes.len(), n, width, at, line);
-        if answer.code != Answer::FRESH {
+        if answer.code != 0 {
             return answer;
         }
-        let row = line.row;
-        put_row(table, n, row);
+        put_row(table, n, line.row);
         n += 1;
-        let end = line.end;
-        at = end + 1;
+        at = line.end + 1;
     }
     Answer::passed(n as u64)
-}
-
-// Puts one table at the front of another.
-fn copy(source: &[u64], table: &mut [u64])
-    requires { length source.now ≤ length table.old }
-    ensures { table.new ≡ source.now ++ drop (length source.now) table.old }
-{
-    let mut i = 0;
-    while i < source.len() {
-        table[i] = source[i];
-        i += 1;
-    }
 }
 
 // Loads the data lines behind a sound header.
@@ -272,16 +225,17 @@ fn load_lines(
 {
     let mut rows = [0; Row::LARGEST_TABLE];
     let found = lines(bytes, columns, width, start, &mut rows);
-    if found.code != Answer::FRESH {
+    if found.code != 0 {
         return found;
     }
     let count = found.rows as usize;
     let needed = count * Row::COLUMNS;
     let answer = files::room_for(count, needed, table.len());
-    if answer.code != Answer::FRESH {
+    if answer.code != 0 {
         return answer;
     }
-    copy(&rows[..needed], table);
+    let loaded = &rows[..needed];
+    table[..needed].copy_from_slice(loaded);
     answer
 }
 
@@ -294,8 +248,8 @@ pub fn load(bytes: &[u8], table: &mut [u64]) -> Answer
 {
     let header = headers::read_header(bytes);
     if header.sound {
-        let columns = header.columns;
-        return load_lines(bytes, columns, header.width, header.start, table);
+        load_lines(bytes, header.columns, header.width, header.start, table)
+    } else {
+        Code::HeaderFault.at(0)
     }
-    Answer::refused(Answer::HEADER_FAULT, 0)
 }

@@ -1,4 +1,4 @@
 -- The laws of the marking call's steps.
-pub mod Refusing
 pub mod Asking
+pub mod Refusing
 pub mod Working

@@ -3,7 +3,7 @@
 use Prim.Native.Nat.{ℕ, ◌≤◌, ◌<◌}
 use mathlib.Core.Path.{◌≡◌, refl, sym, ap, ap₂, ◌∙◌}
 use mathlib.Core.Logic.{◌≢◌}
-use mathlib.Core.Bool.{Bool}
+use mathlib.Core.Bool.{Bool, true, false}
 use mathlib.Core.List.{List, [], ◌∷◌, ◌++◌}
 use native.Mathlib.Omega.{arith}
 use borrow.Author.Tests.{eq-eqb, ne_eqb, lt-ltb, le-ltb}
@@ -12,10 +12,11 @@ use lib.ListN.{length}
 use Rattle.history.specs.declared.Op.{Op}
 use Rattle.history.specs.declared.Answer.{Answer}
 use Rattle.history.specs.Table.{history, Alike}
-use Rattle.history.specs.Answer.{short_list, refused, Test, test, if_so, first_met, passed, or_test}
+use Rattle.history.specs.Answer.{refused, Test, test, if_so, first_met, passed}
+use Rattle.history.specs.declared.Code.TheVariants.{ShortList}
 use Rattle.history.specs.Screen.{tests, examined}
 use Rattle.history.proofs.Rows.{same_history}
-use Rattle.history.proofs.Refusals.{coded_append, code_no_fault, no_fault_answer, chained, chained_append, met_chained}
+use Rattle.history.proofs.Refusals.{coded_append, code_no_fault, no_fault_answer, met_stop, met_on}
 use Rattle.history.proofs.Screened.{tests_coded}
 use Rattle.methods.specs.Prepared.{prepared}
 use Rattle.methods.specs.Mark.{Outcome, no_question, method, judged, mark_tests, mark_of, mark}
@@ -24,6 +25,7 @@ use Rattle.meaning.specs.Demand.{Demand}
 use Rattle.meaning.proofs.Outcomes.{met_passes}
 use Rattle.meaning.proofs.Demand.{demand_3}
 use Rattle.searches.specs.Replies.{outcome}
+use Rattle.marker.proofs.Asking.{asked_not}
 
 module _ (size : ℕ) (h : List Op) (question : ℕ) (list : List ℕ) where
   -- what tests 1 to 9 give
@@ -32,22 +34,20 @@ module _ (size : ℕ) (h : List Op) (question : ℕ) (list : List ℕ) where
 
   -- test 10
   abbrev ten : Test
-  ten = test short_list (if_so (ltb (length list) (length h)))
+  ten = test ShortList (if_so (ltb (length list) (length h)))
 
   -- what tests 1 to 10 give
   abbrev pub met : Answer
   met = first_met (mark_tests size h question list) (passed (length h))
 
-  -- test 10 counts where the others refuse nothing
-  met_is : met ≡ or_test nine ten
-  unfolding mark_tests examined chained
-  met_is =
-      let xs = tests size h (no_question question) in
-      let a = passed (length h) in
-      let cx = tests_coded size h (no_question question) in
-      met_chained (xs ++ ten ∷ []) (coded_append xs (ten ∷ []) cx (omega arith)) a refl
-      ∙ chained_append a xs (ten ∷ [])
-      ∙ ap (λ x. chained x (ten ∷ [])) (sym (met_chained xs cx a refl))
+  -- what they give where tests 1 to 9 refuse, and where they refuse nothing
+  met_first : nine.code ≢ 0 → met ≡ nine
+  unfolding mark_tests examined
+  met_first n = met_stop (tests size h (no_question question)) (ten ∷ []) (passed (length h)) refl n
+
+  met_past : nine.code ≡ 0 → met ≡ first_met (ten ∷ []) (passed (length h))
+  unfolding mark_tests examined
+  met_past z = met_on (tests size h (no_question question)) (ten ∷ []) (passed (length h)) (tests_coded size h (no_question question)) z
 
   -- where they refuse nothing, their answer has the count of the rows
   nine_passed : nine.code ≡ 0 → nine ≡ passed (length h)
@@ -79,22 +79,21 @@ module _ (size : ℕ) (h : List Op) (question : ℕ) (list : List ℕ) where
 
     -- a refusal by tests 1 to 9
     pub met_refused : a.code ≢ 0 → a ≡ met
-    unfolding or_test
-    met_refused n = same ∙ sym (met_is ∙ rw (ne_eqb nine.code 0 (λ z. n (code ∙ z))) refl)
+    met_refused n = same ∙ sym (met_first (λ z. n (code ∙ z)))
 
     -- a list with fewer places than there are rows
-    pub met_short : a.code ≡ 0 → room < a.rows → (r : Answer) → r ≡ refused short_list 0 → r ≡ met
-    unfolding or_test
+    pub met_short : a.code ≡ 0 → room < a.rows → (r : Answer) → r ≡ refused ShortList 0 → r ≡ met
+    unfolding first_met
     met_short z l r k =
         let few : length list < length h = omega (arith, long, rows (sym code ∙ z)) in
-        k ∙ sym (met_is ∙ rw (eq-eqb nine.code 0 (sym code ∙ z), lt-ltb (length list) (length h) few) refl)
+        k ∙ sym (met_past (sym code ∙ z) ∙ rw (lt-ltb (length list) (length h) few) refl)
 
     -- no refusal
     pub met_passed : a.code ≡ 0 → a.rows ≤ room → a ≡ met
-    unfolding or_test
+    unfolding first_met
     met_passed z l =
         let enough : length h ≤ length list = omega (arith, long, rows (sym code ∙ z)) in
-        same ∙ sym (met_is ∙ rw (eq-eqb nine.code 0 (sym code ∙ z), le-ltb (length list) (length h) enough) refl)
+        same ∙ nine_passed (sym code ∙ z) ∙ sym (met_past (sym code ∙ z) ∙ rw (le-ltb (length list) (length h) enough) refl)
 
 module _ (t : List ℕ) (register question allowance : ℕ) (list : List ℕ) where
   -- what tests 1 to 10 give of the table's register
@@ -120,6 +119,10 @@ module _ (t : List ℕ) (register question allowance : ℕ) (list : List ℕ) wh
   -- no refusal says that the tests are passed
   pub mark_passes : (a : Answer) → a ≡ first → a.code ≡ 0 → Passes (length t) (history t register) question list
   mark_passes a e z = met_passes (length t) (history t register) question list (sym (ap (λ x. x.code) e) ∙ z)
+
+  -- where there is no such question, something is refused
+  pub mark_unasked : no_question question ≡ true → (a : Answer) → a ≡ first → a.code ≢ 0
+  mark_unasked n a e z = let f : false ≡ no_question question = asked_not question (mark_passes a e z).asked in cc
 
   -- and then the outcome is the method's
   pub mark_marked : (a : Answer) → a ≡ first → a.code ≡ 0 → (out : Outcome) →

@@ -16,44 +16,32 @@ use Rattle.methods.specs.Mark.{Outcome, k_of, method, judged}
 use Rattle.preparation.proofs.Rows.{history_rows}
 use Rattle.meaning.specs.Marked.{Passes}
 use Rattle.meaning.proofs.Methods.{Settles, settles_order, method_settles}
-use Rattle.positions.specs.Columns.{Cols, size, op, ops, Sound}
-use Rattle.positions.proofs.Columns.{size_is, of_sound}
+use Rattle.positions.specs.Columns.{Cols, op, ops}
 use Rattle.placing.specs.declared.Search.{Search}
 use Rattle.placing.specs.Searched.{between, Searched, is_stale, is_fresh, is_spent}
 use Rattle.columns.specs.Rows.{Listed}
 use Rattle.columns.specs.Made.{Made}
 use Rattle.columns.proofs.Made.{prepared_rows}
 use Rattle.columns.proofs.Lent.{rows_long}
-use Rattle.joining.specs.Items.{Known}
 use Rattle.searches.specs.Replies.{Fits, Replied}
 use Rattle.searches.proofs.Answering.{between_long}
-use Rattle.marker.specs.Called.{Asked}
+use Rattle.marker.specs.declared.Question.{Question}
+use Rattle.marker.specs.Questions.{number}
+use Rattle.marker.proofs.Asking.{asked_of}
 
 module _ {t : List ℕ} {register : ℕ} {rows : List ℕ} (g : Listed t register rows) where
   -- the register's operations
   abbrev h : List Op
   h = history t register
 
-  -- the columns have a place for each row
-  pub made_size : {C : Cols} → Made t rows C → size C ≡ length rows
-  made_size m = let o = m.columns register g in omega (arith, size_is o, ap length (prepared_rows g), length-map (prepared h) (λ x. x.row))
-
-  -- what the search takes
-  pub search_takes : {C : Cols} → Made t rows C → length rows ≤ 1024 → Sound C × ((size C ≤ 1024) × Known C)
-  search_takes {C} m few =
-      let o = m.columns register g in (
-        of_sound o m.chains,
-        (omega (arith, made_size m), (prepared h, o)),
-      )
-
-  module _ (question : ℕ) (asked : Asked question) where
+  module _ (question : Question) where
     -- an order of the register is no longer than it
-    order_few : (p : List Op) → (method question (prepared h)).decision ≡ order p → length p ≤ length h
+    order_few : (p : List Op) → (method (number question) (prepared h)).decision ≡ order p → length p ≤ length h
     order_few p e =
-        let s : Settles (k_of question) h (method question (prepared h)).decision = method_settles g.screened (history_rows t register) question asked in
+        let s : Settles (k_of (number question)) h (method (number question) (prepared h)).decision = method_settles g.screened (history_rows t register) (number question) (asked_of question) in
         go (rw e at s)
       where
-        go : Settles (k_of question) h (order p) → length p ≤ length h
+        go : Settles (k_of (number question)) h (order p) → length p ≤ length h
         go (settles_order {o = o} q i) =
             omega (
               arith,
@@ -64,7 +52,7 @@ module _ {t : List ℕ} {register : ℕ} {rows : List ℕ} (g : Listed t registe
             )
 
     -- and so it fits the list
-    pub found_fits : {C : Cols} {allowance : ℕ} {places : List ℕ} {r : Search} → Made t rows C → Searched C allowance (method question) places r → (list : List ℕ) →
+    pub found_fits : {C : Cols} {allowance : ℕ} {places : List ℕ} {r : Search} → Made t rows C → Searched C allowance (method (number question)) places r → (list : List ℕ) →
         length rows ≤ length list → Fits places list r
     found_fits m (is_stale l s) list room = tt
     found_fits m (is_spent s) list room = tt
@@ -89,5 +77,8 @@ module _ {t : List ℕ} {register : ℕ} {rows : List ℕ} (g : Listed t registe
 
 -- What the marking of a register's rows takes, where it passes tests 1 to 10.
 module _ (t : List ℕ) (register question : ℕ) (list : List ℕ) (p : Passes (length t) (history t register) question list) (rows : List ℕ) (g : Listed t register rows) where
-  pub rows_take : ((r : ℕ) × Listed t r rows) × ((length rows ≤ largest_count) × ((length rows ≤ length list) × Asked question))
-  rows_take = ((register, g), (omega (arith, rows_long g, rows_few t register, p.screened.few), (omega (arith, rows_long g, p.room), p.asked)))
+  pub rows_few_listed : length rows ≤ largest_count
+  rows_few_listed = omega (arith, rows_long g, rows_few t register, p.screened.few)
+
+  pub rows_room : length rows ≤ length list
+  rows_room = omega (arith, rows_long g, p.room)

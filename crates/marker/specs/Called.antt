@@ -1,14 +1,10 @@
 -- What the steps of the marking call take and give.
 -- Assumes nothing.
-use Rattle.std.specs.Prelude.{ℕ, ◌≡◌, ◌⊎◌, List, length}
+use Rattle.std.specs.Prelude.{ℕ, ◌≡◌, List, length}
 use Rattle.history.specs.Table.{history}
 use Rattle.methods.specs.Prepared.{prepared}
 use Rattle.methods.specs.Mark.{Outcome, method, judged}
 use Rattle.columns.specs.Rows.{Listed}
-
--- the question is one of the three
-abbrev pub Asked : ℕ → Type 0
-Asked question = (question ≡ 1) ⊎ (question ≡ 2) ⊎ (question ≡ 3)
 
 -- what the method of the question gives over the prepared history of a register, as an outcome
 abbrev pub judged_by : List ℕ → ℕ → ℕ → ℕ → List ℕ → Outcome

@@ -1,2 +1,3 @@
 -- What the functions of the marking call take and leave.
 pub mod Called
+pub mod Questions

@@ -8,7 +8,8 @@ use lib.Dec.{ltb, eqb}
 use lib.ListN.{length}
 use borrow.Author.Tests.{le-ltb}
 use Rattle.history.specs.declared.Op.{Op}
-use Rattle.history.specs.Answer.{number, fresh, first_met, passed}
+use Rattle.history.specs.Answer.{number, first_met, passed}
+use Rattle.history.specs.declared.Code.TheVariants.{Fresh}
 use Rattle.methods.specs.Prepared.{prepared}
 use Rattle.methods.specs.Zones.{Decision, none, order}
 use Rattle.methods.specs.Mark.{Outcome, Result, method, marked, judged, mark_tests, mark_of}
@@ -35,4 +36,4 @@ module _ (h : List Op) (a b : List ℕ) where
 
     pub same_answer : (allowance : ℕ) → (mark_of size h question allowance a).answer ≡ (mark_of size h question allowance b).answer
     unfolding mark_of
-    same_answer allowance = rw same_tests (alike (eqb (first_met (mark_tests size h question b) (passed (length h))).code (number fresh)) _ _ _ _ (same_judged (length h) allowance (method question (prepared h))) refl)
+    same_answer allowance = rw same_tests (alike (eqb (first_met (mark_tests size h question b) (passed (length h))).code (number Fresh)) _ _ _ _ (same_judged (length h) allowance (method question (prepared h))) refl)

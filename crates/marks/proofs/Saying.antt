@@ -1,6 +1,6 @@
 -- What the code of a mark says where the list has 1,024 places and the allowance is ample; and that 10 never comes.
 -- Assumes nothing.
-use Prim.Native.Nat.{ℕ, ◌≤◌}
+use Prim.Native.Nat.{ℕ, ◌<◌, ◌≤◌}
 use mathlib.Core.Path.{◌≡◌, refl, sym, ap, ◌∙◌}
 use mathlib.Core.Logic.{◌⊎◌, inl, inr, ◌≢◌}
 use mathlib.Core.Bool.{Bool, true, false, cond}
@@ -8,14 +8,14 @@ use mathlib.Core.List.{List, [], ◌∷◌}
 use native.Mathlib.Omega.{arith}
 use lib.Dec.{ltb, eqb}
 use lib.ListN.{length, replicate, length-replicate}
-use borrow.Author.Tests.{le-ltb}
-use Rattle.lists.specs.declared.Found.{Found}
-use Rattle.lists.specs.declared.Found.TheVariants.{At, Nothing}
+use borrow.Author.Tests.{le-ltb, ltb-true, ltb-false}
+use Rattle.std.specs.Prelude.{Option, Some, None}
 use Rattle.lists.proofs.Counts.{keep_length}
 use Rattle.history.specs.declared.Op.{Op}
 use Rattle.history.specs.declared.Answer.{Answer}
 use Rattle.history.specs.Table.{history, row_count, largest_count, is_write}
-use Rattle.history.specs.Answer.{number, spent, short_list, Test, test, if_so, refused_or, first_met, passed}
+use Rattle.history.specs.Answer.{number, Test, test, if_so, refused_or, first_met, passed}
+use Rattle.history.specs.declared.Code.TheVariants.{Spent, ShortList}
 use Rattle.history.specs.Screen.{tests, Screened}
 use Rattle.history.proofs.Refusals.{NoFault, met_append}
 use Rattle.history.proofs.Screened.{no_fault_screened}
@@ -45,10 +45,10 @@ unfolding first_met
 other_no_fault c [] h a e = (tt, e)
 other_no_fault c (x ∷ xs) h a e = go x.fault refl e (other_no_fault c xs h.1 a)
   where
-    go : (f : Found) → x.fault ≡ f → (refused_or x.code f (first_met xs a)).code ≡ c → ((first_met xs a).code ≡ c → NoFault xs × (a.code ≡ c)) →
-        ((x.fault ≡ Nothing) × NoFault xs) × (a.code ≡ c)
-    go (At row) same z rest = absurd (h.0 z)
-    go Nothing same z rest = let r = rest z in ((same, r.0), r.1)
+    go : (f : Option ℕ) → x.fault ≡ f → (refused_or x.code f (first_met xs a)).code ≡ c → ((first_met xs a).code ≡ c → NoFault xs × (a.code ≡ c)) →
+        ((x.fault ≡ None) × NoFault xs) × (a.code ≡ c)
+    go (Some row) same z rest = absurd (h.0 z)
+    go None same z rest = let r = rest z in ((same, r.0), r.1)
 
 module _ (t : List ℕ) (register question : ℕ) where
   abbrev h : List Op
@@ -73,7 +73,7 @@ module _ (t : List ℕ) (register question : ℕ) where
   unfolding mark_tests first_met
   never_short e =
       let xs = tests (length t) h (no_question question) in
-      let ten = test short_list (if_so (ltb (length places) (length h))) ∷ [] in
+      let ten = test ShortList (if_so (ltb (length places) (length h))) ∷ [] in
       let m = other_no_fault 10 xs nine_other (first_met ten (passed (length h))) (sym (ap (λ x. x.code) (met_append xs ten (passed (length h)))) ∙ e) in
       let s = no_fault_screened (length t) h (no_question question) m.0 in
       let z : ◌≡◌ {A = ℕ} 0 10 = sym (rw (le-ltb (length places) (length h) (enough_places s)) refl) ∙ m.1 in
@@ -129,7 +129,7 @@ module _ (t : List ℕ) (register question : ℕ) where
     answer_said f = outcome_said _ f (marked? (length t) h question places (history_rows t register) allowance)
 
     -- THE LIST IS NEVER TOO SHORT
-    pub never_ten : (answer_to t register question allowance).code ≢ number short_list
+    pub never_ten : (answer_to t register question allowance).code ≢ number ShortList
     unfolding answer_to mark mark_of judged marked
     never_ten = go (eqb met.code 0) (ltb allowance (trials_of h question)) (method question (prepared h)).decision
       where
@@ -137,29 +137,28 @@ module _ (t : List ℕ) (register question : ℕ) where
         met = first_met (mark_tests (length t) h question places) (passed (length h))
 
         go : (b c : Bool) (d : Decision) →
-            (cond b (cond c (record { answer = answered spent 0 allowance; list = places }) (marked (length h) (trials_of h question) places d)) (record { answer = met; list = places })).answer.code ≢ 10
+            (cond b (cond c (record { answer = answered Spent 0 allowance; list = places }) (marked (length h) (trials_of h question) places d)) (record { answer = met; list = places })).answer.code ≢ 10
         go true true d e = omega (arith, e)
         go true false none e = omega (arith, e)
         go true false (order o) e = omega (arith, e)
         go false c d e = never_short e
 
     -- THE CONTRACT, from the answer
-    said_of : (a : Answer) → a ≡ answer_to t register question allowance →
-        (a ≡ answer_to t register question allowance) × ((Ample question allowance → Said t register question a.code) × (a.code ≢ number short_list))
+    pub said_of : (a : Answer) → a ≡ answer_to t register question allowance →
+        (a ≡ answer_to t register question allowance) × ((Ample question allowance → Said t register question a.code) × (a.code ≢ number ShortList))
     said_of a i = (i, (λ f. rw i (answer_said f), λ z. never_ten (sym (ap (λ x. x.code) i) ∙ z)))
 
-    -- from the contract of the marking call, with 1,024 places
-    pub answer_is : (a : Answer) (after : List ℕ) → ◌≡◌ {A = Outcome} (record { answer = a; list = after }) (mark t register question allowance places) →
-        (a ≡ answer_to t register question allowance) × ((Ample question allowance → Said t register question a.code) × (a.code ≢ number short_list))
-    unfolding answer_to
-    answer_is a after e = said_of a (ap (λ (o : Outcome). o.answer) e)
-
-    -- and with fewer, where the table has no more rows
-    pub answer_few : (m : ℕ) → row_count t ≤ m → m ≤ largest_count → (a : Answer) (after : List ℕ) →
+    -- the answer with m places: 1,024, or fewer where the table has no more rows
+    pub answer_sized : (m : ℕ) → m ≤ largest_count → (m < largest_count → row_count t ≤ m) → (a : Answer) (after : List ℕ) →
         ◌≡◌ {A = Outcome} (record { answer = a; list = after }) (mark t register question allowance (replicate m 0)) →
-        (a ≡ answer_to t register question allowance) × ((Ample question allowance → Said t register question a.code) × (a.code ≢ number short_list))
+        a ≡ answer_to t register question allowance
     unfolding answer_to mark
-    answer_few m k l a after e =
-        let f : length h ≤ length (replicate {A = ℕ} m 0) = omega (arith, rows_few t register, length-replicate {A = ℕ} m 0) in
-        let g : length h ≤ length places = omega (arith, rows_few t register, length-replicate {A = ℕ} largest_count 0) in
-        said_of a (ap (λ (o : Outcome). o.answer) e ∙ same_answer h (replicate m 0) places f g (length t) question allowance)
+    answer_sized m l few a after e = ap (λ (o : Outcome). o.answer) e ∙ go (ltb m largest_count) refl
+      where
+        go : (b : Bool) → ltb m largest_count ≡ b →
+            (mark_of (length t) h question allowance (replicate m 0)).answer ≡ (mark_of (length t) h question allowance places).answer
+        go true e =
+            let f : length h ≤ length (replicate {A = ℕ} m 0) = omega (arith, few (ltb-true _ _ e), rows_few t register, length-replicate {A = ℕ} m 0) in
+            let g : length h ≤ length places = omega (arith, few (ltb-true _ _ e), rows_few t register, length-replicate {A = ℕ} largest_count 0) in
+            same_answer h (replicate m 0) places f g (length t) question allowance
+        go false e = let same : m ≡ largest_count = omega (arith, ltb-false _ _ e) in rw same refl

@@ -3,7 +3,8 @@
 use Rattle.std.specs.Prelude.{ℕ, ◌≤◌, ◌≡◌, ◌⊎◌, ◌≢◌, ◌↔◌, List, length, replicate}
 use Rattle.history.specs.declared.Answer.{Answer}
 use Rattle.history.specs.Table.{history, largest_count}
-use Rattle.history.specs.Answer.{number, fresh, spent, stale}
+use Rattle.history.specs.Answer.{number}
+use Rattle.history.specs.declared.Code.TheVariants.{Fresh, Spent, Stale}
 use Rattle.history.specs.Screen.{Screened}
 use Rattle.methods.specs.Mark.{mark}
 use Rattle.meaning.specs.Demand.{SomeOrder, NoOrder}
@@ -28,7 +29,7 @@ pub record Askable (t : List ℕ) (register question : ℕ) : Type 0 where
 -- What a code says with an ample allowance: it is fresh or stale exactly where the register passes the screening, fresh exactly where some order is
 -- valid and k-atomic, and stale exactly where none is; and it is never spent.
 pub record Said (t : List ℕ) (register question code : ℕ) : Type 0 where
-  pub decided : ((code ≡ number fresh) ⊎ (code ≡ number stale)) ↔ Askable t register question
-  pub fresh_exactly : (code ≡ number fresh) ↔ (Askable t register question × SomeOrder t register question)
-  pub stale_exactly : (code ≡ number stale) ↔ (Askable t register question × NoOrder t register question)
-  pub unspent : code ≢ number spent
+  pub decided : ((code ≡ number Fresh) ⊎ (code ≡ number Stale)) ↔ Askable t register question
+  pub fresh_exactly : (code ≡ number Fresh) ↔ (Askable t register question × SomeOrder t register question)
+  pub stale_exactly : (code ≡ number Stale) ↔ (Askable t register question × NoOrder t register question)
+  pub unspent : code ≢ number Spent

@@ -14,7 +14,8 @@ use Rattle.lists.proofs.Members.{in_keep, keep_in}
 use Rattle.lists.proofs.Pairs.{pairs_keep}
 use Rattle.history.specs.declared.Op.{Op}
 use Rattle.history.specs.Table.{is_write, Dictates}
-use Rattle.history.specs.Answer.{fresh, spent, stale, number}
+use Rattle.history.specs.Answer.{number}
+use Rattle.history.specs.declared.Code.TheVariants.{Fresh, Spent, Stale}
 use Rattle.history.specs.Screen.{Screened}
 use Rattle.methods.specs.Place.{other_value, write_count}
 use Rattle.methods.specs.Mark.{Outcome, k_of, mark_of}
@@ -34,7 +35,7 @@ abbrev pub code : ℕ → List Op → ℕ → ℕ → List ℕ → ℕ
 code size h question allowance list = (mark_of size h question allowance list).answer.code
 
 -- What a fresh mark stands on: tests 1 to 10 are passed, the trials are allowed, and there is an order.
-pub record Fresh (size : ℕ) (h : List Op) (question allowance : ℕ) (list : List ℕ) : Type 0 where
+pub record FreshMark (size : ℕ) (h : List Op) (question allowance : ℕ) (list : List ℕ) : Type 0 where
   pub passes : Passes size h question list
   pub within : trials_of h question ≤ allowance
   pub order : List Op
@@ -42,16 +43,16 @@ pub record Fresh (size : ℕ) (h : List Op) (question allowance : ℕ) (list : L
 
 module _ (size : ℕ) (h : List Op) (a : RowsRise h) where
   module _ (question allowance : ℕ) (list : List ℕ) where
-    pub fresh_is : code size h question allowance list ≡ number fresh → Fresh size h question allowance list
+    pub fresh_is : code size h question allowance list ≡ number Fresh → FreshMark size h question allowance list
     fresh_is e = go _ (marked? size h question list a allowance) e
       where
-        go : (out : Outcome) → Marked size h question allowance list out → out.answer.code ≡ 0 → Fresh size h question allowance list
+        go : (out : Outcome) → Marked size h question allowance list out → out.answer.code ≡ 0 → FreshMark size h question allowance list
         go out (is_refused n z l) c = absurd (z c)
         go out (is_spent p l) c = absurd (omega (arith, c))
         go out (is_stale p l n) c = absurd (omega (arith, c))
         go out (is_fresh {o = o} p l i) c = record { passes = p; within = l; order = o; orders = i }
 
-    pub is_fresh_mark : Fresh size h question allowance list → code size h question allowance list ≡ number fresh
+    pub is_fresh_mark : FreshMark size h question allowance list → code size h question allowance list ≡ number Fresh
     is_fresh_mark f = go _ (marked? size h question list a allowance)
       where
         go : (out : Outcome) → Marked size h question allowance list out → out.answer.code ≡ 0
@@ -62,7 +63,7 @@ module _ (size : ℕ) (h : List Op) (a : RowsRise h) where
 
     -- with the trials allowed, a call that passes tests 1 to 10 is marked fresh or stale
     settled : Passes size h question list → Enough h question allowance →
-        (code size h question allowance list ≡ number fresh) ⊎ (code size h question allowance list ≡ number stale)
+        (code size h question allowance list ≡ number Fresh) ⊎ (code size h question allowance list ≡ number Stale)
     settled p e = go _ (marked? size h question list a allowance)
       where
         go : (out : Outcome) → Marked size h question allowance list out → (out.answer.code ≡ 0) ⊎ (out.answer.code ≡ 12)
@@ -72,7 +73,7 @@ module _ (size : ℕ) (h : List Op) (a : RowsRise h) where
         go out (is_fresh r i k) = inl refl
 
     -- 2W - 1 TRIALS ARE ALWAYS ENOUGH.
-    pub never_spent : 2 * write_count h - 1 ≤ allowance → code size h question allowance list ≢ number spent
+    pub never_spent : 2 * write_count h - 1 ≤ allowance → code size h question allowance list ≢ number Spent
     never_spent l = go _ (marked? size h question list a allowance)
       where
         go : (out : Outcome) → Marked size h question allowance list out → out.answer.code ≢ 11
@@ -83,8 +84,8 @@ module _ (size : ℕ) (h : List Op) (a : RowsRise h) where
 
   module _ (list : List ℕ) where
     -- a fresh mark to a question r whose k is no smaller
-    again : (q r n m : ℕ) → (r ≡ 1) ⊎ (r ≡ 2) ⊎ (r ≡ 3) → k_of q ≤ k_of r → Enough h r m → code size h q n list ≡ number fresh →
-        code size h r m list ≡ number fresh
+    again : (q r n m : ℕ) → (r ≡ 1) ⊎ (r ≡ 2) ⊎ (r ≡ 3) → k_of q ≤ k_of r → Enough h r m → code size h q n list ≡ number Fresh →
+        code size h r m list ≡ number Fresh
     again q r n m asked w e c =
         let f = fresh_is q n list c in
         is_fresh_mark r m list
@@ -113,14 +114,14 @@ module _ (size : ℕ) (h : List Op) (a : RowsRise h) where
         go (inr c) (inr d) = c ∙ sym d
 
     -- FRESH UNDER QUESTION 1 IS FRESH UNDER 2 AND 3.
-    pub one_lbt : (n m : ℕ) → Enough h 2 m → code size h 1 n list ≡ number fresh → code size h 2 m list ≡ number fresh
+    pub one_lbt : (n m : ℕ) → Enough h 2 m → code size h 1 n list ≡ number Fresh → code size h 2 m list ≡ number Fresh
     one_lbt n m e c = again 1 2 n m (inr (inl refl)) (omega arith) e c
 
-    pub one_fzf : (n m : ℕ) → code size h 1 n list ≡ number fresh → code size h 3 m list ≡ number fresh
+    pub one_fzf : (n m : ℕ) → code size h 1 n list ≡ number Fresh → code size h 3 m list ≡ number Fresh
     one_fzf n m c = again 1 3 n m (inr (inr refl)) (omega arith) (λ e. absurd (omega (arith, e))) c
 
 -- A LARGER ALLOWANCE ALTERS NO OUTCOME BUT SPENT.
-pub larger : (size : ℕ) (h : List Op) (question n m : ℕ) (list : List ℕ) → n ≤ m → code size h question n list ≢ number spent →
+pub larger : (size : ℕ) (h : List Op) (question n m : ℕ) (list : List ℕ) → n ≤ m → code size h question n list ≢ number Spent →
     mark_of size h question n list ≡ mark_of size h question m list
 larger size h question n m list l c = go (dec_le (trials_of h question) n)
   where
@@ -151,7 +152,7 @@ screened_keep {h = h} p c s =
 
 module _ (size : ℕ) (h : List Op) (a : RowsRise h) (p : Op → Bool) (c : Closed p h) where
   pub fewer_fresh : (question n m : ℕ) (list after : List ℕ) → length (keep p h) ≤ length after → Enough (keep p h) question m →
-      code size h question n list ≡ number fresh → code size (keep p h) question m after ≡ number fresh
+      code size h question n list ≡ number Fresh → code size (keep p h) question m after ≡ number Fresh
   fewer_fresh question n m list after l e d =
       let f = fresh_is size h a question n list d in
       let s = screened_keep p c f.passes.screened in

@@ -9,12 +9,12 @@ use native.Mathlib.Omega.{arith}
 use lib.Dec.{ltb, eqb}
 use lib.ListN.{length}
 use borrow.Author.Tests.{ltb-true, ltb-false, lt-ltb, le-ltb, eqb-true, eqb-false, not-false}
-use Rattle.lists.specs.declared.Found.{Found}
-use Rattle.lists.specs.declared.Found.TheVariants.{At, Nothing}
+use Rattle.std.specs.Prelude.{Option, Some, None}
 use Rattle.lists.proofs.Tests.{Told, told_true, true_told, told_as, told_or, told_eqb}
 use Rattle.history.specs.declared.Op.{Op}
 use Rattle.history.specs.declared.Answer.{Answer}
-use Rattle.history.specs.Answer.{number, Test, test, if_so, refused_or, first_met, passed, spent, short_list}
+use Rattle.history.specs.Answer.{number, Test, test, if_so, refused_or, first_met, passed}
+use Rattle.history.specs.declared.Code.TheVariants.{Spent, ShortList}
 use Rattle.history.specs.Screen.{tests}
 use Rattle.history.proofs.Refusals.{NoFault, Coded, no_fault_append, no_fault_left, no_fault_right, code_no_fault, no_fault_answer, if_so_lem, if_not}
 use Rattle.history.proofs.Screened.{no_fault_asked, no_fault_screened, screened_no_fault}
@@ -38,9 +38,9 @@ unfolding first_met
 small_met [] h a l = l
 small_met (x ∷ xs) h a l = go x.fault (small_met xs h.1 a l)
   where
-    go : (f : Found) → Other (first_met xs a).code → Other (refused_or x.code f (first_met xs a)).code
-    go (At row) k = h.0
-    go Nothing k = k
+    go : (f : Option ℕ) → Other (first_met xs a).code → Other (refused_or x.code f (first_met xs a)).code
+    go (Some row) k = h.0
+    go None k = k
 
 told_asked : (question : ℕ) → Told ((question ≡ 1) ⊎ (question ≡ 2) ⊎ (question ≡ 3)) (eqb question 1 || eqb question 2 || eqb question 3)
 told_asked question = told_as right left (told_or (told_or (told_eqb question 1) (told_eqb question 2)) (told_eqb question 3))
@@ -60,7 +60,7 @@ module _ (size : ℕ) (h : List Op) (question : ℕ) (list : List ℕ) where
   nine = tests size h (no_question question)
 
   abbrev ten : List Test
-  ten = test short_list (if_so (ltb (length list) (length h))) ∷ []
+  ten = test ShortList (if_so (ltb (length list) (length h))) ∷ []
 
   abbrev met : Answer
   met = first_met (mark_tests size h question list) (passed (length h))
@@ -104,7 +104,7 @@ module _ (size : ℕ) (h : List Op) (question : ℕ) (list : List ℕ) where
     judged? p = go (ltb allowance (trials_of h question)) refl (method question (prepared h)).decision (method_settles p.screened a question p.asked)
       where
         go : (b : Bool) → ltb allowance (trials_of h question) ≡ b → (d : Decision) → Settles (k_of question) h d →
-            Mine (cond b (record { answer = answered spent 0 allowance; list = list }) (marked (length h) (trials_of h question) list d))
+            Mine (cond b (record { answer = answered Spent 0 allowance; list = list }) (marked (length h) (trials_of h question) list d))
         go true e d s = is_spent p (ltb-true _ _ e)
         go false e none (settles_none n) = is_stale p (ltb-false allowance (trials_of h question) e) n
         go false e (order q) (settles_order {o = o} r k) = rw r (is_fresh {o = o} p (ltb-false allowance (trials_of h question) e) k)
@@ -128,7 +128,7 @@ module _ (size : ℕ) (h : List Op) (question : ℕ) (list : List ℕ) where
   same_outcome {n} {m} i j = rw (le-ltb n (trials_of h question) i, le-ltb m (trials_of h question) j) refl
 
   -- One of fewer trials gives spent, or the refusal of any other.
-  pub refused_same : {n : ℕ} (m : ℕ) → n < trials_of h question → (mark_of size h question n list).answer.code ≢ number spent →
+  pub refused_same : {n : ℕ} (m : ℕ) → n < trials_of h question → (mark_of size h question n list).answer.code ≢ number Spent →
       mark_of size h question n list ≡ mark_of size h question m list
   unfolding mark_of judged
   refused_same {n} m i c =

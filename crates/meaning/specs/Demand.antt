@@ -3,7 +3,8 @@
 -- Assumes nothing.
 use Rattle.std.specs.Prelude.{ℕ, ◌<◌, ◌≡◌, ◌⊎◌, ◌≢◌, ◌↔◌, List, ◌++◌, length, drop}
 use Rattle.history.specs.Table.{history}
-use Rattle.history.specs.Answer.{fresh, spent, stale, number}
+use Rattle.history.specs.Answer.{number}
+use Rattle.history.specs.declared.Code.TheVariants.{Fresh, Spent, Stale}
 use Rattle.atomicity.specs.Order.{Atomic}
 use Rattle.methods.specs.Mark.{Outcome, k_of, mark}
 use Rattle.meaning.specs.Marked.{Passes, Enough, trials_of}
@@ -34,21 +35,21 @@ module _ (t : List ℕ) (register question : ℕ) where
 pub record Demand (t : List ℕ) (register question allowance : ℕ) (list : List ℕ) (out : Outcome) : Type 0 where
   -- given room and allowance, the mark is fresh or stale: fresh exactly when some order is valid and k-atomic, stale exactly when none is
   pub decided : Ready t register question list → Allowed t register question allowance →
-      (out.answer.code ≡ number fresh) ⊎ (out.answer.code ≡ number stale)
+      (out.answer.code ≡ number Fresh) ⊎ (out.answer.code ≡ number Stale)
   pub fresh_exactly : Ready t register question list → Allowed t register question allowance →
-      (out.answer.code ≡ number fresh) ↔ SomeOrder t register question
+      (out.answer.code ≡ number Fresh) ↔ SomeOrder t register question
   pub stale_exactly : Ready t register question list → Allowed t register question allowance →
-      (out.answer.code ≡ number stale) ↔ NoOrder t register question
+      (out.answer.code ≡ number Stale) ↔ NoOrder t register question
   -- with fresh the list holds such an order, and without it the list is untouched; and stale is never said where there is an order, whatever
   -- the allowance and the list
-  pub order : out.answer.code ≡ number fresh → Written t register question list out.list
-  pub untouched : out.answer.code ≢ number fresh → out.list ≡ list
-  pub no_order : out.answer.code ≡ number stale → NoOrder t register question
+  pub order : out.answer.code ≡ number Fresh → Written t register question list out.list
+  pub untouched : out.answer.code ≢ number Fresh → out.list ≡ list
+  pub no_order : out.answer.code ≡ number Stale → NoOrder t register question
   -- a smaller allowance gives that same outcome, or spent, and spent exactly when the walk has more trials than are allowed
   pub smaller : Ready t register question list → (enough : ℕ) → Allowed t register question enough →
-      (out ≡ mark t register question enough list) ⊎ (out.answer.code ≡ number spent)
-  pub spent_exactly : Ready t register question list → (out.answer.code ≡ number spent) ↔ (allowance < trials_of (history t register) question)
+      (out ≡ mark t register question enough list) ⊎ (out.answer.code ≡ number Spent)
+  pub spent_exactly : Ready t register question list → (out.answer.code ≡ number Spent) ↔ (allowance < trials_of (history t register) question)
   -- a mark's trials are the walk's, and 0 where the method has none
-  pub counted : Ready t register question list → out.answer.code ≢ number spent → out.answer.trials ≡ trials_of (history t register) question
+  pub counted : Ready t register question list → out.answer.code ≢ number Spent → out.answer.trials ≡ trials_of (history t register) question
   -- a shorter list, a failed screening or another question is never a fresh or stale mark
-  pub neither : ¬ Ready t register question list → (out.answer.code ≢ number fresh) × (out.answer.code ≢ number stale)
+  pub neither : ¬ Ready t register question list → (out.answer.code ≢ number Fresh) × (out.answer.code ≢ number Stale)

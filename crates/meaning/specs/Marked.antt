@@ -3,7 +3,7 @@
 use Rattle.std.specs.Prelude.{ℕ, suc, ◌*◌, ◌/◌, ◌≤◌, ◌<◌, ◌≡◌, ◌⊎◌, ◌≢◌, List, length}
 use Rattle.history.specs.declared.Op.{Op}
 use Rattle.history.specs.declared.Answer.{Answer}
-use Rattle.history.specs.Answer.{fresh, spent, stale}
+use Rattle.history.specs.declared.Code.TheVariants.{Fresh, Spent, Stale}
 use Rattle.history.specs.Screen.{Screened}
 use Rattle.methods.specs.Prepared.{prepared}
 use Rattle.methods.specs.Place.{write_count}
@@ -30,11 +30,11 @@ pub data Marked (size : ℕ) (h : List Op) (question allowance : ℕ) (list : Li
       Marked size h question allowance list (record { answer = a; list = list })
   -- code 11: the walk has more trials than are allowed
   is_spent : Passes size h question list → allowance < trials_of h question →
-      Marked size h question allowance list (record { answer = answered spent 0 allowance; list = list })
+      Marked size h question allowance list (record { answer = answered Spent 0 allowance; list = list })
   -- code 12: no order of all is valid and k-atomic
   is_stale : Passes size h question list → trials_of h question ≤ allowance → ((o : List Op) → Orders (k_of question) h o → ⊥) →
-      Marked size h question allowance list (record { answer = answered stale (length h) (trials_of h question); list = list })
+      Marked size h question allowance list (record { answer = answered Stale (length h) (trials_of h question); list = list })
   -- code 0: the rows of one that is are at the front of the list
   is_fresh : {o : List Op} → Passes size h question list → trials_of h question ≤ allowance → Orders (k_of question) h o →
       Marked size h question allowance list
-      (record { answer = answered fresh (length h) (trials_of h question); list = written (row_numbers o) list })
+      (record { answer = answered Fresh (length h) (trials_of h question); list = written (row_numbers o) list })

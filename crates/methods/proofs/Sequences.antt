@@ -4,7 +4,8 @@ use Prim.Native.Nat.{ℕ}
 use mathlib.Core.Path.{◌≡◌, refl}
 use mathlib.Core.List.{List, map}
 use Rattle.history.specs.declared.Op.{Op}
-use Rattle.history.specs.Answer.{Code, Test}
+use Rattle.history.specs.Answer.{Test}
+use Rattle.history.specs.declared.Code.{Code}
 use Rattle.history.specs.Screen.{tests}
 use Rattle.atomicity.specs.Check.{order_tests, check_tests}
 use Rattle.methods.specs.Mark.{mark_tests}

@@ -4,7 +4,9 @@ use Rattle.std.specs.Prelude.{ℕ, Bool, cond, not, ◌||◌, List, [], ◌∷�
 use Rattle.history.specs.declared.Op.{Op}
 use Rattle.history.specs.declared.Answer.{Answer}
 use Rattle.history.specs.Table.{history}
-use Rattle.history.specs.Answer.{Code, fresh, short_list, spent, stale, number, Test, test, if_so, first_met, passed}
+use Rattle.history.specs.Answer.{number, Test, test, if_so, first_met, passed}
+use Rattle.history.specs.declared.Code.{Code}
+use Rattle.history.specs.declared.Code.TheVariants.{Fresh, ShortList, Spent, Stale}
 use Rattle.history.specs.Screen.{tests}
 use Rattle.methods.specs.Prepared.{prepared}
 use Rattle.methods.specs.Zones.{Decision, none, order, zones}
@@ -55,24 +57,24 @@ answered code rows trials = record { code = number code; row = 0; rows = rows; t
 
 -- fresh, with the order written, or stale (01, codes 0 and 12)
 unfoldable pub marked : ℕ → ℕ → List ℕ → Decision → Outcome
-marked rows trials list none = record { answer = answered stale rows trials; list = list }
-marked rows trials list (order o) = record { answer = answered fresh rows trials; list = written (row_numbers o) list }
+marked rows trials list none = record { answer = answered Stale rows trials; list = list }
+marked rows trials list (order o) = record { answer = answered Fresh rows trials; list = written (row_numbers o) list }
 
 -- spent exactly where the walk has more trials than allowed (01, code 11; "LBT")
 unfoldable pub judged : ℕ → ℕ → List ℕ → Result → Outcome
 judged rows allowance list r =
-    cond (ltb allowance r.trials) (record { answer = answered spent 0 allowance; list = list }) (marked rows r.trials list r.decision)
+    cond (ltb allowance r.trials) (record { answer = answered Spent 0 allowance; list = list }) (marked rows r.trials list r.decision)
 
 -- Tests 1 to 10, in their sequence (01, "The answer and its numbers").
 unfoldable pub mark_tests : ℕ → List Op → ℕ → List ℕ → List Test
-mark_tests size h question list = tests size h (no_question question) ++ test short_list (if_so (ltb (length list) (length h))) ∷ []
+mark_tests size h question list = tests size h (no_question question) ++ test ShortList (if_so (ltb (length list) (length h))) ∷ []
 
 -- The outcome, from the table's length and the register's operations alone (01, "The row"). A refusal leaves the list as it was.
 unfoldable pub mark_of : ℕ → List Op → ℕ → ℕ → List ℕ → Outcome
 mark_of size h question allowance list =
     let met = first_met (mark_tests size h question list) (passed (length h)) in
     let outcome = judged (length h) allowance list (method question (prepared h)) in
-    cond (eqb met.code (number fresh)) outcome (record { answer = met; list = list })
+    cond (eqb met.code (number Fresh)) outcome (record { answer = met; list = list })
 
 -- the marking call (01, "What is built")
 unfoldable pub mark : List ℕ → ℕ → ℕ → ℕ → List ℕ → Outcome

@@ -15,19 +15,13 @@ impl Zone {
     pub fn low(self) -> u64
         ensures { result ≡ low self }
     {
-        if self.finish < self.start {
-            return self.finish;
-        }
-        self.start
+        self.finish.min(self.start)
     }
 
     pub fn high(self) -> u64
         ensures { result ≡ high self }
     {
-        if self.finish < self.start {
-            return self.start;
-        }
-        self.finish
+        self.finish.max(self.start)
     }
 
     // Whether the zone is forward; else it is backward.

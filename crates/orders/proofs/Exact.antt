@@ -10,7 +10,7 @@ use native.Mathlib.Omega.{arith}
 use borrow.Author.Tests.{not-false, ltb-false, le-ltb, eqb-false, ne_eqb}
 use lib.Dec.{ltb, eqb}
 use lib.ListN.{length, get_or}
-use Rattle.lists.specs.declared.Found.TheVariants.{At, Nothing}
+use Rattle.std.specs.Prelude.{Some, None}
 use Rattle.lists.specs.Lists.{up_to, any}
 use Rattle.lists.proofs.Tests.{or_false, told_true, true_told, told_false, false_told}
 use Rattle.lists.proofs.Ranges.{below_in, in_below}
@@ -32,20 +32,20 @@ unfolding order_tests
 order_coded t register k order = omega arith
 
 module _ (t : List ℕ) (register : ℕ) (order : List ℕ) where
-  missing_none : missing t register order ≡ Nothing → length (rows_of t register) ≤ length order
+  missing_none : missing t register order ≡ None → length (rows_of t register) ≤ length order
   unfolding missing
   missing_none e = go (ltb (length order) (length (rows_of t register))) refl e
     where
-      go : (b : Bool) → ltb (length order) (length (rows_of t register)) ≡ b → cond b (At (length order)) Nothing ≡ Nothing → length (rows_of t register) ≤ length order
+      go : (b : Bool) → ltb (length order) (length (rows_of t register)) ≡ b → cond b (Some (length order)) None ≡ None → length (rows_of t register) ≤ length order
       go true h f = let z : ◌≡◌ {A = ℕ} 0 1 = cc in absurd (omega arith)
       go false h f = ltb-false (length order) (length (rows_of t register)) h
 
-  none_missing : length (rows_of t register) ≤ length order → missing t register order ≡ Nothing
+  none_missing : length (rows_of t register) ≤ length order → missing t register order ≡ None
   unfolding missing
   none_missing h = rw (le-ltb (length order) (length (rows_of t register)) h)
 
   -- Where no position is a misfit and none is missing, the list is a total order; and the other way round.
-  module _ (fits : lowest_at (misfits t register order) order ≡ Nothing) where
+  module _ (fits : lowest_at (misfits t register order) order ≡ None) where
     parts : (p : ℕ) → p < length order → (is_row t register (get_or order p 0) ≡ true) × (any (same_row order p) (up_to p) ≡ false)
     unfolding misfits
     parts p h =
@@ -58,7 +58,7 @@ module _ (t : List ℕ) (register : ℕ) (order : List ℕ) where
     once_holds : (p q : ℕ) → p < q → q < length order → get_or order p 0 ≢ get_or order q 0
     once_holds p q l h same = told_false (told_repeats t order q) (parts q h).1 (p, below_in q l, same)
 
-    pub total_holds : missing t register order ≡ Nothing → TotalOrder t register order
+    pub total_holds : missing t register order ≡ None → TotalOrder t register order
     total_holds e =
         record {
           rows = rows_hold;
@@ -66,14 +66,14 @@ module _ (t : List ℕ) (register : ℕ) (order : List ℕ) where
           whole = λ i r. in_at (cover order (rows_of t register) (λ p h. rows_in_lem t register (rows_hold p h)) once_holds (missing_none e) (rows_in_lem t register r));
         }
 
-  total_fits : TotalOrder t register order → lowest_at (misfits t register order) order ≡ Nothing
+  total_fits : TotalOrder t register order → lowest_at (misfits t register order) order ≡ None
   total_fits o = at_none (misfits t register order) order (λ p h. false_told (told_misfits t order p register) (go p h))
     where
       go : (p : ℕ) → p < length order → (RowOf t register (get_or order p 0) → ⊥) ⊎ ((q : ℕ) × In q (up_to p) × (get_or order q 0 ≡ get_or order p 0)) → ⊥
       go p h (inl n) = n (o.rows p h)
       go p h (inr (q, m, e)) = o.once q p (in_below p m) h e
 
-  total_whole : TotalOrder t register order → missing t register order ≡ Nothing
+  total_whole : TotalOrder t register order → missing t register order ≡ None
   total_whole o = none_missing (no_longer (pairs_map (rows_rise t register) (λ x y m n h e. omega arith)) order listed)
     where
       listed : (i : ℕ) → In i (rows_of t register) → In i order

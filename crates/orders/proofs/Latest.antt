@@ -3,7 +3,7 @@
 -- Assumes nothing.
 use Prim.Native.Nat.{ℕ, ◌+◌}
 use mathlib.Core.Path.{◌≡◌, refl, sym, ap, ap₂, ◌∙◌}
-use mathlib.Core.Bool.{Bool, true, false, cond, not, ◌&&◌, ◌||◌}
+use mathlib.Core.Bool.{Bool, true, false, not, ◌&&◌, ◌||◌}
 use mathlib.Core.List.{List, [], ◌∷◌}
 use native.Mathlib.Omega.{arith}
 use borrow.Author.Tests.{ltb-true, ltb-false, lt-ltb, le-ltb}
@@ -13,18 +13,16 @@ use Rattle.history.specs.declared.Op.{Op}
 use Rattle.history.specs.Table.{is_opening, precedes}
 use Rattle.atomicity.specs.Order.{placed}
 use Rattle.atomicity.specs.Check.{precedes_at, late}
-use Rattle.orders.specs.Faults.{larger}
+use Rattle.std.specs.Prelude.{max}
 use Rattle.orders.proofs.Growing.{any_more}
 
-larger_ltb : (f a b : ℕ) → ltb f (larger a b) ≡ (ltb f a || ltb f b)
-unfolding larger
-larger_ltb f a b = go (ltb a b) refl (ltb f a) refl
+max_ltb : (f a b : ℕ) → ltb f (max a b) ≡ (ltb f a || ltb f b)
+max_ltb f a b = go (ltb f a) refl (ltb f b) refl
   where
-    go : (c : Bool) → ltb a b ≡ c → (d : Bool) → ltb f a ≡ d → ltb f (cond c b a) ≡ (d || ltb f b)
-    go true h true e = lt-ltb f b (omega (arith, ltb-true a b h, ltb-true f a e))
-    go true h false e = refl
-    go false h true e = e
-    go false h false e = e ∙ sym (le-ltb f b (omega (arith, ltb-false a b h, ltb-false f a e)))
+    go : (c : Bool) → ltb f a ≡ c → (d : Bool) → ltb f b ≡ d → ltb f (max a b) ≡ (c || d)
+    go true h d e = lt-ltb f (max a b) (omega (arith, ltb-true f a h))
+    go false h true e = lt-ltb f (max a b) (omega (arith, ltb-true f b e))
+    go false h false e = le-ltb f (max a b) (omega (arith, ltb-false f a h, ltb-false f b e))
 
 -- one of two tests, of which the second has a part of its own
 any_either : (a c : ℕ → Bool) (b : Bool) (l : List ℕ) → any (λ q. a q || (b && c q)) l ≡ (any a l || (b && any c l))
@@ -56,12 +54,12 @@ module _ (t order : List ℕ) where
   unfolding any from
   latest_none = record { met = refl; over = λ f. le-ltb f 0 (omega arith) }
 
-  pub latest_more : (p latest new : ℕ) (others more : Bool) (o : Op) → o ≡ placed t order p → new ≡ larger latest o.start → more ≡ (others || not (is_opening o)) →
+  pub latest_more : (p latest new : ℕ) (others more : Bool) (o : Op) → o ≡ placed t order p → new ≡ max latest o.start → more ≡ (others || not (is_opening o)) →
       Latest p latest others → Latest (p + 1) new more
   latest_more p latest new others more o e n m l =
       record {
         met = m ∙ ap₂ (λ a b. a || b) l.met (ap (λ x. not (is_opening x)) e) ∙ sym (any_more other p);
-        over = λ f. rw n (larger_ltb f latest o.start ∙ ap₂ (λ a b. a || b) (l.over f) (ap (λ x. ltb f x.start) e) ∙ sym (any_more (starts_after f) p));
+        over = λ f. rw n (max_ltb f latest o.start ∙ ap₂ (λ a b. a || b) (l.over f) (ap (λ x. ltb f x.start) e) ∙ sym (any_more (starts_after f) p));
       }
 
   pub latest_late : (p latest : ℕ) (others r : Bool) (o : Op) → o ≡ placed t order p → r ≡ (ltb o.finish latest || (is_opening o && others)) → Latest p latest others →

@@ -6,7 +6,7 @@ use mathlib.Core.Logic.{◌⊎◌}
 use mathlib.Core.Bool.{Bool, false}
 use mathlib.Core.List.{List, Memᴰ as In}
 use lib.ListN.{length, get_or}
-use Rattle.lists.specs.declared.Found.TheVariants.{Nothing}
+use Rattle.std.specs.Prelude.{None}
 use Rattle.lists.specs.Lists.{up_to, any}
 use Rattle.lists.proofs.Tests.{Told, told_as, told_not, told_and, told_or, told_ltb, told_eqb}
 use Rattle.lists.proofs.Members.{told_any, nothing_none, none_nothing}
@@ -18,10 +18,10 @@ use Rattle.atomicity.specs.Order.{placed, writes_between}
 use Rattle.atomicity.specs.Check.{same_row, precedes_at, near_at, is_row, misfits, late, too_far, lowest_at}
 
 -- no position meets the condition: as the search says it, and for each position
-pub none_at : (f : ℕ → Bool) (order : List ℕ) → lowest_at f order ≡ Nothing → (p : ℕ) → p < length order → f p ≡ false
+pub none_at : (f : ℕ → Bool) (order : List ℕ) → lowest_at f order ≡ None → (p : ℕ) → p < length order → f p ≡ false
 none_at f order e p h = nothing_none (λ q. q) f (up_to (length order)) e p (below_in (length order) h)
 
-pub at_none : (f : ℕ → Bool) (order : List ℕ) → ((p : ℕ) → p < length order → f p ≡ false) → lowest_at f order ≡ Nothing
+pub at_none : (f : ℕ → Bool) (order : List ℕ) → ((p : ℕ) → p < length order → f p ≡ false) → lowest_at f order ≡ None
 at_none f order h = none_nothing (λ q. q) f (up_to (length order)) (λ p m. h p (in_below (length order) m))
 
 pub told_row : (t : List ℕ) (register i : ℕ) → Told (RowOf t register i) (is_row t register i)

@@ -7,8 +7,7 @@ use mathlib.Core.List.{List, Memᴰ as In}
 use native.Mathlib.Omega.{arith}
 use lib.Dec.{ltb, eqb}
 use lib.ListN.{length, get_or, take, drop}
-use Rattle.lists.specs.declared.Found.{Found}
-use Rattle.lists.specs.declared.Found.TheVariants.{At, Nothing}
+use Rattle.std.specs.Prelude.{Option, Some, None}
 use Rattle.lists.specs.Lists.{up_to, any}
 use Rattle.lists.proofs.Tests.{told_as, told_same}
 use Rattle.lists.proofs.Members.{any_ext, first_ext, keep_ext}
@@ -16,7 +15,8 @@ use Rattle.lists.proofs.Ranges.{in_below}
 use Rattle.lists.proofs.Cover.{in_at, in_take, in_drop}
 use Rattle.history.specs.declared.Answer.{Answer}
 use Rattle.history.specs.Table.{history, op_at, is_write, is_read, precedes, dictates, Alike}
-use Rattle.history.specs.Answer.{misfit_list, out_of_time, too_far_behind, refused_or, first_met, passed}
+use Rattle.history.specs.Answer.{refused_or, first_met, passed}
+use Rattle.history.specs.declared.Code.TheVariants.{MisfitList, OutOfTime, TooFarBehind}
 use Rattle.history.specs.Screen.{tests}
 use Rattle.history.proofs.Rows.{same_op, same_rows, same_history}
 use Rattle.history.proofs.Refusals.{met_append}
@@ -35,10 +35,10 @@ module _ {t u : List ℕ} {register : ℕ} (a : Alike t u register) (order : Lis
 
   same_missing : missing t register order ≡ missing u register order
   unfolding missing
-  same_missing = ap (λ rs. cond (ltb (length order) (length rs)) (At (length order)) Nothing) (same_rows a)
+  same_missing = ap (λ rs. cond (ltb (length order) (length rs)) (Some (length order)) None) (same_rows a)
 
   -- Past test 13 every position holds a row of the register, and the tables agree there.
-  module _ (fits : lowest_at (misfits t register order) order ≡ Nothing) where
+  module _ (fits : lowest_at (misfits t register order) order ≡ None) where
     same_placed : (p : ℕ) → p < length order → placed t order p ≡ placed u order p
     same_placed p h = same_op a (get_or order p 0) (rows_hold t register order fits p h)
 
@@ -73,10 +73,10 @@ module _ {t u : List ℕ} {register : ℕ} (a : Alike t u register) (order : Lis
   -- what tests 13 (missing rows), 14 and 15 make of the answer x
   abbrev Later : List ℕ → ℕ → Answer → Answer
   Later v k x =
-      refused_or misfit_list (missing v register order)
-      (refused_or out_of_time (lowest_at (late v order) order) (refused_or too_far_behind (lowest_at (too_far k v order) order) x))
+      refused_or MisfitList (missing v register order)
+      (refused_or OutOfTime (lowest_at (late v order) order) (refused_or TooFarBehind (lowest_at (too_far k v order) order) x))
 
-  same_later : (k : ℕ) (x : Answer) → lowest_at (misfits t register order) order ≡ Nothing → Later t k x ≡ Later u k x
+  same_later : (k : ℕ) (x : Answer) → lowest_at (misfits t register order) order ≡ None → Later t k x ≡ Later u k x
   same_later k x fits =
       let l : lowest_at (late t order) order ≡ lowest_at (late u order) order = same_lowest fits (late t order) (late u order) (same_late fits) in
       let f : lowest_at (too_far k t order) order ≡ lowest_at (too_far k u order) order = same_lowest fits (too_far k t order) (too_far k u order) (same_far fits k) in
@@ -89,9 +89,9 @@ module _ {t u : List ℕ} {register : ℕ} (a : Alike t u register) (order : Lis
       same_first : lowest_at (misfits t register order) order ≡ lowest_at (misfits u register order) order
       same_first = first_ext (misfits t register order) (misfits u register order) (λ p. p) (up_to (length order)) (λ p m. same_misfits p)
 
-      go : (f : Found) → lowest_at (misfits t register order) order ≡ f → refused_or misfit_list f (Later t k x) ≡ refused_or misfit_list f (Later u k x)
-      go (At p) e = refl
-      go Nothing e = same_later k x e
+      go : (f : Option ℕ) → lowest_at (misfits t register order) order ≡ f → refused_or MisfitList f (Later t k x) ≡ refused_or MisfitList f (Later u k x)
+      go (Some p) e = refl
+      go None e = same_later k x e
 
   pub alike_check : (k : ℕ) → check t register k order ≡ check u register k order
   unfolding check

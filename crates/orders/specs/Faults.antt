@@ -1,9 +1,11 @@
 -- What the code's names for faults stand for in the definitions of Check.antt, and what its searches keep beside the list.
 -- Assumes nothing.
-use Rattle.std.specs.Prelude.{ℕ, ◌<◌, ◌≡◌, Bool, cond, List, ltb, length, get_or, take}
+use Rattle.std.specs.Prelude.{ℕ, ◌<◌, ◌≡◌, Bool, List, length, get_or, take}
 use Rattle.lists.specs.Lists.{keep}
 use Rattle.history.specs.Table.{op_at, is_write, history}
-use Rattle.history.specs.Answer.{Code, misfit_list, out_of_time, too_far_behind, Test, test}
+use Rattle.history.specs.Answer.{Test, test}
+use Rattle.history.specs.declared.Code.{Code}
+use Rattle.history.specs.declared.Code.TheVariants.{MisfitList, OutOfTime, TooFarBehind}
 use Rattle.history.specs.Screen.{Screened}
 use Rattle.orders.specs.declared.Fault.{Fault}
 use Rattle.orders.specs.declared.Fault.TheVariants.{Misfit, Late, TooFar}
@@ -11,9 +13,9 @@ use Rattle.atomicity.specs.Order.{TotalOrder}
 use Rattle.atomicity.specs.Check.{misfits, late, too_far, lowest_at, missing}
 
 abbrev pub code_of : Fault → Code
-code_of Misfit = misfit_list
-code_of Late = out_of_time
-code_of TooFar = too_far_behind
+code_of Misfit = MisfitList
+code_of Late = OutOfTime
+code_of TooFar = TooFarBehind
 
 unfoldable pub condition : Fault → List ℕ → ℕ → ℕ → List ℕ → ℕ → Bool
 condition Misfit t register k order = misfits t register order
@@ -24,7 +26,7 @@ abbrev pub position_test : List ℕ → ℕ → ℕ → List ℕ → Fault → T
 position_test t register k order x = test (code_of x) (lowest_at (condition x t register k order) order)
 
 abbrev pub missing_test : List ℕ → ℕ → List ℕ → Test
-missing_test t register order = test misfit_list (missing t register order)
+missing_test t register order = test MisfitList (missing t register order)
 
 -- a total order of a screened register
 pub record Ordered (t order : List ℕ) : Type 0 where
@@ -37,10 +39,6 @@ abbrev pub Before : Fault → List ℕ → List ℕ → Type 0
 Before Misfit t order = Unit {0}
 Before Late t order = Unit {0}
 Before TooFar t order = Ordered t order
-
--- the larger of two numbers
-unfoldable pub larger : ℕ → ℕ → ℕ
-larger a b = cond (ltb a b) b a
 
 -- the number of writes before a position
 abbrev pub writes_before : List ℕ → List ℕ → ℕ → ℕ

@@ -1,18 +1,17 @@
 // The order check: a list of row numbers, held to the register's operations position by position.
 #![tactic(auto)]
 
-ghost use Rattle.std.specs.Prelude.{◌≡◌, ◌↔◌, not, ◌&&◌, ◌||◌, List, map, ℕ, ◌%◌, ◌<◌, ◌≤◌, ltb, length, get_or};
+ghost use Rattle.std.specs.Prelude.{◌≡◌, ◌↔◌, not, ◌&&◌, ◌||◌, List, [], ◌∷◌, map, ℕ, ◌%◌, ◌<◌, ◌≤◌, ltb, length, get_or};
 ghost use Rattle.lists.specs.Lists.{one_if};
 ghost use Rattle.history.specs.Table.{largest_count, row_count, op_at, history, Alike};
 ghost use Rattle.history.specs.Screen.{Screened};
-ghost use Rattle.history.specs.Answer.{number, or_test};
+ghost use Rattle.history.specs.Answer.{Ran};
 ghost use Rattle.history.specs.Table.{is_opening, is_write};
 ghost use Rattle.writers.specs.Writers.{writer_of};
-ghost use Rattle.atomicity.specs.Check.{is_row, misfits, late, too_far, lowest_at, check, Accepted};
-ghost use Rattle.orders.specs.Faults.{condition, code_of, position_test, missing_test, Ordered, Before, larger, Counted};
+ghost use Rattle.atomicity.specs.Check.{is_row, misfits, late, too_far, lowest_at, order_tests, check, Accepted};
+ghost use Rattle.orders.specs.Faults.{condition, code_of, position_test, missing_test, Ordered, Before, Counted};
 
-use history::{Answer, Op, Row};
-use lists::Found;
+use history::{Answer, Code, Op, Row};
 
 // What may be wrong with a position.
 #[derive(Clone, Copy)]
@@ -47,10 +46,7 @@ fn is_row(table: &[u64], register: u64, row: u64) -> bool
 {
     let n = table.len() / Row::COLUMNS;
     let at = row as usize;
-    if at < n {
-        return history::bears(table, register, at);
-    }
-    false
+    at < n && history::bears(table, register, at)
 }
 
 // Whether a row is none of the register's or is marked as seen.
@@ -58,34 +54,26 @@ fn unfit(table: &[u64], register: u64, row: u64, seen: &[u64]) -> bool
     requires { row_count table.now ≤ length seen.now }
     ensures { result ≡ (not (is_row table.now register row) || ltb 0 (get_or seen.now row 0)) }
 {
-    if is_row(table, register, row) {
-        let at = row as usize;
-        return 0 < seen[at];
-    }
-    true
+    !is_row(table, register, row) || 0 < seen[row as usize]
 }
 
 // The lowest position that holds no row of the register or repeats one, with a mark for each row of the table.
-fn lowest_misfit_with(table: &[u64], register: u64, list: &[u64], seen: &mut [u64]) -> Found
+fn lowest_misfit_with(table: &[u64], register: u64, list: &[u64], seen: &mut [u64]) -> Option<usize>
     requires table_in_bounds { row_count table.now ≤ length seen.old }
     requires by_index { (i : ℕ) → i < length seen.old → get_or seen.old i 0 ≡ 0 }
     ensures { result ≡ lowest_at (misfits table.now register list.now) list.now }
 {
-    let mut p = 0;
-    while p < list.len() {
-        let row = list[p];
-        if unfit(table, register, row, seen) {
-            return Found::At(p);
+    for (p, row) in list.iter().enumerate() {
+        if unfit(table, register, *row, seen) {
+            return Some(p);
         }
-        let at = row as usize;
-        seen[at] = 1;
-        p += 1;
+        seen[*row as usize] = 1;
     }
-    Found::Nothing
+    None
 }
 
 // The same, with the marks inside.
-fn lowest_misfit(table: &[u64], register: u64, list: &[u64]) -> Found
+fn lowest_misfit(table: &[u64], register: u64, list: &[u64]) -> Option<usize>
     requires { row_count table.now ≤ largest_count }
     ensures { result ≡ lowest_at (misfits table.now register list.now) list.now }
 {
@@ -93,56 +81,36 @@ fn lowest_misfit(table: &[u64], register: u64, list: &[u64]) -> Found
     lowest_misfit_with(table, register, list, &mut seen)
 }
 
-fn larger(a: u64, b: u64) -> u64
-    ensures { result ≡ larger a b }
-{
-    if a < b {
-        return b;
-    }
-    a
-}
-
 // Whether an operation precedes one of others: it finishes before their largest start, or it is the opening and one of them is not.
 fn precedes_any(o: Op, latest: u64, others: bool) -> bool
     ensures { result ≡ (ltb o.finish latest || (is_opening o && others)) }
 {
-    if o.finish < latest {
-        return true;
-    }
-    if o.is_opening() {
-        return others;
-    }
-    false
+    o.finish < latest || o.is_opening() && others
 }
 
 // Whether one is no opening, with an operation more.
 fn or_other(others: bool, o: Op) -> bool
     ensures { result ≡ (others || not (is_opening o)) }
 {
-    if others {
-        return true;
-    }
-    !o.is_opening()
+    others || !o.is_opening()
 }
 
 // The lowest position whose row precedes one listed earlier, by the largest start so far and whether a row was listed that is no opening.
-fn lowest_late(table: &[u64], list: &[u64]) -> Found
+fn lowest_late(table: &[u64], list: &[u64]) -> Option<usize>
     requires { length table.now % 5 ≡ 0 }
     ensures { result ≡ lowest_at (late table.now list.now) list.now }
 {
     let mut latest: u64 = 0;
     let mut others = false;
-    let mut p = 0;
-    while p < list.len() {
-        let o = operation(table, list[p]);
+    for (p, row) in list.iter().enumerate() {
+        let o = operation(table, *row);
         if precedes_any(o, latest, others) {
-            return Found::At(p);
+            return Some(p);
         }
-        latest = larger(latest, o.start);
+        latest = latest.max(o.start);
         others = or_other(others, o);
-        p += 1;
     }
-    Found::Nothing
+    None
 }
 
 // 1 where the row is a write, else 0.
@@ -150,10 +118,7 @@ fn one_write(table: &[u64], row: u64) -> u64
     requires { length table.now % 5 ≡ 0 }
     ensures { result ≡ one_if (is_write (op_at table.now row)) }
 {
-    if operation(table, row).is_write() {
-        return 1;
-    }
-    0
+    u64::from(operation(table, row).is_write())
 }
 
 // The number of writes before each position.
@@ -163,11 +128,9 @@ fn count_writes(table: &[u64], list: &[u64], counts: &mut [u64])
     ensures { Counted table.now list.now counts.new }
 {
     let mut writes: u64 = 0;
-    let mut p: usize = 0;
-    while p < list.len() {
+    for (p, row) in list.iter().enumerate() {
         counts[p] = writes;
-        writes += one_write(table, list[p]);
-        p += 1;
+        writes += one_write(table, *row);
     }
 }
 
@@ -183,27 +146,28 @@ fn too_far(table: &[u64], k: u64, list: &[u64], writer: &[u64], counts: &[u64], 
         return false;
     }
     let q = writer[p] as usize;
-    if q < p {
-        return k < counts[p] - counts[q];
-    }
-    true
+    p <= q || k < counts[p] - counts[q]
 }
 
 // The lowest position with such a read.
-fn first_too_far(table: &[u64], k: u64, list: &[u64], writer: &[u64], counts: &[u64]) -> Found
+fn first_too_far(
+    table: &[u64],
+    k: u64,
+    list: &[u64],
+    writer: &[u64],
+    counts: &[u64],
+) -> Option<usize>
     requires ordered { Ordered table.now list.now }
     requires writer_value { writer.now ≡ map (writer_of table.now list.now) list.now }
     requires counted { Counted table.now list.now counts.now }
     ensures { result ≡ lowest_at (too_far k table.now list.now) list.now }
 {
-    let mut p = 0;
-    while p < list.len() {
+    for p in 0..list.len() {
         if too_far(table, k, list, writer, counts, p) {
-            return Found::At(p);
+            return Some(p);
         }
-        p += 1;
     }
-    Found::Nothing
+    None
 }
 
 // The same; the two slices have a place for each position.
@@ -213,7 +177,7 @@ fn lowest_too_far_with(
     list: &[u64],
     writer: &mut [u64],
     counts: &mut [u64],
-) -> Found
+) -> Option<usize>
     requires ordered { Ordered table.now list.now }
     requires writer_len { length writer.old ≡ length list.now }
     requires counts_len { length counts.old ≡ length list.now }
@@ -225,7 +189,7 @@ fn lowest_too_far_with(
 }
 
 // The same, with the slices inside.
-fn lowest_too_far(table: &[u64], k: u64, list: &[u64]) -> Found
+fn lowest_too_far(table: &[u64], k: u64, list: &[u64]) -> Option<usize>
     requires { Ordered table.now list.now }
     ensures { result ≡ lowest_at (too_far k table.now list.now) list.now }
 {
@@ -236,7 +200,7 @@ fn lowest_too_far(table: &[u64], k: u64, list: &[u64]) -> Found
 }
 
 // The lowest position with the fault.
-fn lowest_at(table: &[u64], register: u64, k: u64, list: &[u64], fault: Fault) -> Found
+fn lowest_at(table: &[u64], register: u64, k: u64, list: &[u64], fault: Fault) -> Option<usize>
     requires screened { Screened (length table.now) (history table.now register) }
     requires before { Before fault table.now list.now }
     ensures { result ≡ lowest_at (condition fault table.now register k list.now) list.now }
@@ -248,50 +212,48 @@ fn lowest_at(table: &[u64], register: u64, k: u64, list: &[u64], fault: Fault) -
     }
 }
 
-fn code(fault: Fault) -> u64
-    ensures { result ≡ number (code_of fault) }
+fn code(fault: Fault) -> Code
+    ensures { result ≡ code_of fault }
 {
     match fault {
-        Fault::Misfit => Answer::MISFIT_LIST,
-        Fault::Late => Answer::OUT_OF_TIME,
-        Fault::TooFar => Answer::TOO_FAR_BEHIND,
+        Fault::Misfit => Code::MisfitList,
+        Fault::Late => Code::OutOfTime,
+        Fault::TooFar => Code::TooFarBehind,
     }
 }
 
-// The refusal so far, or the lowest position with the fault. A test that comes after a refusal is not run.
-fn or_fault(
-    table: &[u64],
-    register: u64,
-    k: u64,
-    list: &[u64],
-    answer: Answer,
-    fault: Fault,
-) -> Answer
+// Refuses with the lowest position that has the fault.
+fn run(table: &[u64], register: u64, k: u64, list: &[u64], fault: Fault) -> Result<(), Answer>
     requires screened { Screened (length table.now) (history table.now register) }
-    requires before { answer.code ≡ 0 → Before fault table.now list.now }
-    ensures { result ≡ or_test answer (position_test table.now register k list.now fault) }
+    requires before { Before fault table.now list.now }
+    ensures { Ran (position_test table.now register k list.now fault ∷ []) result }
 {
-    if answer.code != 0 {
-        return answer;
-    }
     match lowest_at(table, register, k, list, fault) {
-        Found::At(p) => Answer::refused(code(fault), p as u64),
-        Found::Nothing => answer,
+        Some(p) => Err(code(fault).at(p as u64)),
+        None => Ok(()),
     }
 }
 
-// The refusal so far, or 13 with the list's length where rows of the register are missing.
-fn or_missing(table: &[u64], register: u64, list: &[u64], answer: Answer) -> Answer
-    ensures { result ≡ or_test answer (missing_test table.now register list.now) }
+// Refuses with the list's length where rows of the register are missing.
+fn run_missing(table: &[u64], register: u64, list: &[u64]) -> Result<(), Answer>
+    ensures { Ran (missing_test table.now register list.now ∷ []) result }
 {
-    if answer.code != 0 {
-        return answer;
-    }
     let listed = list.len();
     if listed < screening::count(table, register) {
-        return Answer::refused(Answer::MISFIT_LIST, listed as u64);
+        return Err(Code::MisfitList.at(listed as u64));
     }
-    answer
+    Ok(())
+}
+
+// The tests of the list, in their sequence.
+fn run_all(table: &[u64], register: u64, k: u64, list: &[u64]) -> Result<(), Answer>
+    requires { Screened (length table.now) (history table.now register) }
+    ensures { Ran (order_tests table.now register k list.now) result }
+{
+    run(table, register, k, list, Fault::Misfit)?;
+    run_missing(table, register, list)?;
+    run(table, register, k, list, Fault::Late)?;
+    run(table, register, k, list, Fault::TooFar)
 }
 
 // The order check: code 0 exactly where the register passes the screening, k is not 0, and the list is a valid k-atomic total order.
@@ -304,8 +266,8 @@ pub fn check(table: &[u64], register: u64, k: u64, list: &[u64]) -> Answer
     if examined.code != 0 {
         return examined;
     }
-    let fits = or_fault(table, register, k, list, examined, Fault::Misfit);
-    let whole = or_missing(table, register, list, fits);
-    let timely = or_fault(table, register, k, list, whole, Fault::Late);
-    or_fault(table, register, k, list, timely, Fault::TooFar)
+    match run_all(table, register, k, list) {
+        Ok(()) => examined,
+        Err(refusal) => refusal,
+    }
 }

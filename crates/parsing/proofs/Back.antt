@@ -15,7 +15,7 @@ use borrow.Author.Tests.{ltb-true, ltb-false, le-ltb, le-leb, ne_eqb}
 use Rattle.lists.specs.Lists.{all}
 use Rattle.text.specs.Decimal.{digit, digits, decimal, behind, joined, line, lines_of}
 use Rattle.parsing.specs.Numbers.{is_digit, worth, says, number_in, front, after, is_number, before, sound, leading, lines_in, numbers}
-use Rattle.parsing.specs.declared.Number.TheVariants.{Is}
+use Rattle.std.specs.Prelude.{Some}
 use Rattle.text.proofs.Digits.{decimal_length}
 use Rattle.parsing.proofs.Values.{held_small, number_sized}
 use Rattle.parsing.proofs.Lines.{sound_some, leading_some, lines_good}
@@ -60,7 +60,7 @@ digits_worth (suc f) n h = go (ltb n 10) refl (digits_worth f (n / 10))
         worth_snoc 0 (digits f (n / 10)) (digit n) ∙ omega (arith, next (omega (arith, pow-suc 10 f)))
 
 -- A number of 64 bits is read back from its decimal digits.
-pub decimal_number : (n : ℕ) → n < 2 ^ 64 → number_in (decimal n) ≡ Is n
+pub decimal_number : (n : ℕ) → n < 2 ^ 64 → number_in (decimal n) ≡ Some n
 unfolding decimal says
 decimal_number n h =
     let l = decimal_length n in

@@ -4,17 +4,17 @@ use mathlib.Core.Path.{◌≡◌, refl}
 use mathlib.Core.List.{[], ◌∷◌}
 use Rattle.lists.specs.Lists.{all}
 use Rattle.parsing.specs.Numbers.{is_digit, worth, held, says, number_of, number_in, front, after, is_number, before, sound, leading, lines_in, numbers, no_list}
-use Rattle.parsing.specs.declared.Number.TheVariants.{Is, Nothing}
+use Rattle.std.specs.Prelude.{Some, None}
 
 -- "", "0", "007", 2 ^ 64 - 1, 2 ^ 64, "1a"; twenty digits with leading zeros, and twenty-one
-pub said : (number_in [] ≡ Nothing)
-    × (number_in (48 ∷ []) ≡ Is 0)
-    × (number_in (48 ∷ 48 ∷ 55 ∷ []) ≡ Is 7)
-    × (number_in (49 ∷ 56 ∷ 52 ∷ 52 ∷ 54 ∷ 55 ∷ 52 ∷ 52 ∷ 48 ∷ 55 ∷ 51 ∷ 55 ∷ 48 ∷ 57 ∷ 53 ∷ 53 ∷ 49 ∷ 54 ∷ 49 ∷ 53 ∷ []) ≡ Is 18446744073709551615)
-    × (number_in (49 ∷ 56 ∷ 52 ∷ 52 ∷ 54 ∷ 55 ∷ 52 ∷ 52 ∷ 48 ∷ 55 ∷ 51 ∷ 55 ∷ 48 ∷ 57 ∷ 53 ∷ 53 ∷ 49 ∷ 54 ∷ 49 ∷ 54 ∷ []) ≡ Nothing)
-    × (number_in (49 ∷ 97 ∷ []) ≡ Nothing)
-    × (number_in (48 ∷ 48 ∷ 48 ∷ 48 ∷ 48 ∷ 48 ∷ 48 ∷ 48 ∷ 48 ∷ 48 ∷ 48 ∷ 48 ∷ 48 ∷ 48 ∷ 48 ∷ 48 ∷ 48 ∷ 48 ∷ 48 ∷ 53 ∷ []) ≡ Is 5)
-    × (number_in (48 ∷ 48 ∷ 48 ∷ 48 ∷ 48 ∷ 48 ∷ 48 ∷ 48 ∷ 48 ∷ 48 ∷ 48 ∷ 48 ∷ 48 ∷ 48 ∷ 48 ∷ 48 ∷ 48 ∷ 48 ∷ 48 ∷ 48 ∷ 53 ∷ []) ≡ Nothing)
+pub said : (number_in [] ≡ None)
+    × (number_in (48 ∷ []) ≡ Some 0)
+    × (number_in (48 ∷ 48 ∷ 55 ∷ []) ≡ Some 7)
+    × (number_in (49 ∷ 56 ∷ 52 ∷ 52 ∷ 54 ∷ 55 ∷ 52 ∷ 52 ∷ 48 ∷ 55 ∷ 51 ∷ 55 ∷ 48 ∷ 57 ∷ 53 ∷ 53 ∷ 49 ∷ 54 ∷ 49 ∷ 53 ∷ []) ≡ Some 18446744073709551615)
+    × (number_in (49 ∷ 56 ∷ 52 ∷ 52 ∷ 54 ∷ 55 ∷ 52 ∷ 52 ∷ 48 ∷ 55 ∷ 51 ∷ 55 ∷ 48 ∷ 57 ∷ 53 ∷ 53 ∷ 49 ∷ 54 ∷ 49 ∷ 54 ∷ []) ≡ None)
+    × (number_in (49 ∷ 97 ∷ []) ≡ None)
+    × (number_in (48 ∷ 48 ∷ 48 ∷ 48 ∷ 48 ∷ 48 ∷ 48 ∷ 48 ∷ 48 ∷ 48 ∷ 48 ∷ 48 ∷ 48 ∷ 48 ∷ 48 ∷ 48 ∷ 48 ∷ 48 ∷ 48 ∷ 53 ∷ []) ≡ Some 5)
+    × (number_in (48 ∷ 48 ∷ 48 ∷ 48 ∷ 48 ∷ 48 ∷ 48 ∷ 48 ∷ 48 ∷ 48 ∷ 48 ∷ 48 ∷ 48 ∷ 48 ∷ 48 ∷ 48 ∷ 48 ∷ 48 ∷ 48 ∷ 48 ∷ 53 ∷ []) ≡ None)
 unfolding number_in number_of says all is_digit worth held
 said = (refl, refl, refl, refl, refl, refl, refl, refl)
 

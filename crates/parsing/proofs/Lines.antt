@@ -4,15 +4,16 @@ use Prim.Native.Nat.{ℕ, zero, suc, ◌+◌, ◌-◌, ◌≤◌, ◌<◌}
 use mathlib.Core.Path.{◌≡◌, refl, ap, sym, ◌∙◌}
 use mathlib.Core.Bool.{Bool, true, false, cond}
 use mathlib.Core.List.{List, [], ◌∷◌}
-use native.Mathlib.Numerals.{add-one}
 use native.Mathlib.Omega.{arith}
-use lib.Dec.{eqb}
-use lib.ListN.{length, get_or, take, drop, length-drop, drop_of_length-le}
-use lib.Seq.{drop-cons, drop-drop}
-use borrow.Author.Tests.{eq-eqb, ne_eqb}
+use lib.Dec.{eqb, ltb}
+use lib.ListN.{length, take, drop, length-drop, drop_of_length-le}
+use lib.Seq.{drop-drop}
+use borrow.Author.Tests.{ltb-false}
 use Rattle.parsing.specs.Numbers.{number_in, front, after, is_number, before, sound, leading, lines_in, numbers, no_list}
-use Rattle.parsing.specs.declared.Number.{Number}
-use Rattle.parsing.specs.declared.Number.TheVariants.{Is, Nothing}
+use Rattle.std.specs.Prelude.{Option, Some, None, not, unwrap_or, ◌==◌}
+use Rattle.std.specs.Option.{is_some}
+use Rattle.std.specs.List.{position, position_or_len}
+use Rattle.std.proofs.lemmas.List.{take_rest}
 
 pub front_take : (t : List ℕ) → take (length (front t)) t ≡ front t
 unfolding front
@@ -33,18 +34,26 @@ front_length (c ∷ t) = go (eqb c 10) (front_length t)
     go true h = omega arith
     go false h = omega arith
 
-module _ (text : List ℕ) (i : ℕ) where
-  pub front_feed : i < length text → get_or text i 0 ≡ 10 → length (front (drop i text)) ≡ 0
-  unfolding front
-  front_feed h e = rw (drop-cons text i 0 h, eq-eqb (get_or text i 0) 10 e)
+front_prefix : (t : List ℕ) → position_or_len (λ b. b == 10) t ≡ length (front t)
+unfolding front
+front_prefix [] = refl
+front_prefix (c ∷ t) = go (eqb c 10) (front_prefix t)
+  where
+    go : (b : Bool) → position_or_len (λ b. b == 10) t ≡ length (front t)
+        → cond (not b) (1 + position_or_len (λ b. b == 10) t) 0 ≡ length (cond b [] (c ∷ front t))
+    go true h = refl
+    go false h = omega arith
 
-  pub front_on : i < length text → (get_or text i 0 ≡ 10 → ⊥) → length (front (drop i text)) ≡ suc (length (front (drop (i + 1) text)))
-  unfolding front
-  front_on h e = rw (drop-cons text i 0 h, ne_eqb (get_or text i 0) 10 e, add-one i)
-
-  pub front_end : length text ≤ i → length (front (drop i text)) ≡ 0
-  unfolding front
-  front_end h = rw (drop_of_length-le text h)
+-- The line is as long as what a search for its line feed passes.
+pub front_position : (t : List ℕ) → unwrap_or (position (λ b. b == 10) t) (length t) ≡ length (front t)
+front_position t = go (position_or_len (λ b. b == 10) t) (front_prefix t)
+  where
+    go : (n : ℕ) → n ≡ length (front t) → unwrap_or (cond (ltb n (length t)) (Some n) None) (length t) ≡ length (front t)
+    go n e = tell (ltb n (length t)) refl
+      where
+        tell : (b : Bool) → ltb n (length t) ≡ b → unwrap_or (cond b (Some n) None) (length t) ≡ length (front t)
+        tell true h = e
+        tell false h = omega (arith, e, front_length t, ltb-false n (length t) h)
 
 pub sound_some : (k : ℕ) (t : List ℕ) → 0 < length t → sound (suc k) t ≡ cond (is_number (number_in (front t))) (sound k (after t)) false
 unfolding sound
@@ -63,9 +72,14 @@ leading_length zero t = omega arith
 leading_length (suc k) [] = omega arith
 leading_length (suc k) (c ∷ t) = go (number_in (front (c ∷ t))) (leading_length k (after (c ∷ t)))
   where
-    go : (n : Number) → length (leading k (after (c ∷ t))) ≤ k → length (before n (leading k (after (c ∷ t)))) ≤ suc k
-    go (Is x) h = omega arith
-    go Nothing h = omega arith
+    go : (n : Option ℕ) → length (leading k (after (c ∷ t))) ≤ k → length (before n (leading k (after (c ∷ t)))) ≤ suc k
+    go (Some x) h = omega arith
+    go None h = omega arith
+
+number_some : (n : Option ℕ) → is_number n ≡ is_some n
+unfolding is_number
+number_some (Some x) = refl
+number_some None = refl
 
 -- k lines are allowed, and n of them are passed
 module _ (text : List ℕ) (k n at : ℕ) where
@@ -90,39 +104,40 @@ module _ (text : List ℕ) (k n at : ℕ) where
     leading_done h = rw (drop_of_length-le text h, one)
 
     -- the line that starts here, and where it ends
-    module _ (inside : at < length text) (end : ℕ) (ends : end ≡ at + length (front (drop at text))) where
+    module _ (inside : at < length text) (end : ℕ) (ends : end ≡ at + length (front (take (length text - at) (drop at text)))) where
+      ends' : end ≡ at + length (front (drop at text))
+      ends' = ends ∙ ap (λ (t : List ℕ). at + length (front t)) (take_rest text at)
+
       some : 0 < length (drop at text)
       some = omega (arith, length-drop at text)
 
       pub end_within : end ≤ length text
-      end_within = omega (arith, ends, length-drop at text, front_length (drop at text))
+      end_within = omega (arith, ends', length-drop at text, front_length (drop at text))
 
       here : take (end - at) (drop at text) ≡ front (drop at text)
-      here = let e : end - at ≡ length (front (drop at text)) = omega (arith, ends) in rw e (front_take (drop at text))
+      here = let e : end - at ≡ length (front (drop at text)) = omega (arith, ends') in rw e (front_take (drop at text))
 
       behind : after (drop at text) ≡ drop (end + 1) text
       unfolding after
       behind =
-          let e : at + (length (front (drop at text)) + 1) ≡ end + 1 = omega (arith, ends) in
+          let e : at + (length (front (drop at text)) + 1) ≡ end + 1 = omega (arith, ends') in
           drop-drop (length (front (drop at text)) + 1) at text ∙ rw e
 
-      module _ (number : Number) (reads : number ≡ number_in (take (end - at) (drop at text))) where
+      module _ (number : Option ℕ) (reads : number ≡ number_in (take (end - at) (drop at text))) where
         said : number_in (front (drop at text)) ≡ number
         said = sym (reads ∙ ap number_in here)
 
-        pub sound_next : (x : ℕ) → number ≡ Is x → sound (k - n) (drop at text) ≡ sound (k - (n + 1)) (drop (end + 1) text)
-        unfolding is_number
-        sound_next x e = rw one (sound_some (k - (n + 1)) (drop at text) some ∙ rw (said, e, behind))
+        pub sound_next : is_some number ≡ true → sound (k - n) (drop at text) ≡ sound (k - (n + 1)) (drop (end + 1) text)
+        sound_next e = rw one (sound_some (k - (n + 1)) (drop at text) some ∙ rw (said, number_some number, e, behind))
 
-        pub sound_not : number ≡ Nothing → sound (k - n) (drop at text) ≡ false
-        unfolding is_number
-        sound_not e = rw one (sound_some (k - (n + 1)) (drop at text) some ∙ rw (said, e))
+        pub sound_not : is_some number ≡ false → sound (k - n) (drop at text) ≡ false
+        sound_not e = rw one (sound_some (k - (n + 1)) (drop at text) some ∙ rw (said, number_some number, e))
 
-        pub leading_next : (x : ℕ) → number ≡ Is x → leading (k - n) (drop at text) ≡ x ∷ leading (k - (n + 1)) (drop (end + 1) text)
+        pub leading_next : (x : ℕ) → number ≡ Some x → leading (k - n) (drop at text) ≡ x ∷ leading (k - (n + 1)) (drop (end + 1) text)
         unfolding before
         leading_next x e = rw one (leading_some (k - (n + 1)) (drop at text) some ∙ rw (said, e, behind))
 
-        pub leading_not : number ≡ Nothing → leading (k - n) (drop at text) ≡ []
+        pub leading_not : number ≡ None → leading (k - n) (drop at text) ≡ []
         unfolding before
         leading_not e = rw one (leading_some (k - (n + 1)) (drop at text) some ∙ rw (said, e))
 

@@ -1,11 +1,7 @@
 -- Numbers read out of decimal text: one, as an argument of a program, and a list of them, one a line, as in an order file.
 -- Assumes nothing.
-use Rattle.std.specs.Prelude.{ℕ, zero, suc, ◌+◌, ◌-◌, ◌*◌, ◌^◌, Bool, true, false, cond, List, [], ◌∷◌, ◌++◌, eqb, ltb, leb, length, drop}
+use Rattle.std.specs.Prelude.{ℕ, zero, suc, ◌+◌, ◌-◌, ◌*◌, ◌^◌, Bool, true, false, cond, List, [], ◌∷◌, ◌++◌, eqb, ltb, leb, length, drop, Option, Some, None}
 use Rattle.lists.specs.Lists.{all}
-use Rattle.parsing.specs.declared.Number.{Number}
-use Rattle.parsing.specs.declared.Number.TheVariants.{Is, Nothing}
-use Rattle.parsing.specs.declared.Count.{Count}
-use Rattle.parsing.specs.declared.Count.TheVariants.{Read, NoList}
 
 -- a decimal digit as a byte
 unfoldable pub is_digit : ℕ → Bool
@@ -17,20 +13,20 @@ worth v [] = v
 worth v (c ∷ t) = worth (v * 10 + (c - 48)) t
 
 -- a number that 64 bits hold
-unfoldable pub held : ℕ → Number
-held v = cond (ltb v (2 ^ 64)) (Is v) Nothing
+unfoldable pub held : ℕ → Option ℕ
+held v = cond (ltb v (2 ^ 64)) (Some v) None
 
 -- what bytes say behind a number v
-unfoldable pub says : ℕ → List ℕ → Number
-says v t = cond (all is_digit t) (held (worth v t)) Nothing
+unfoldable pub says : ℕ → List ℕ → Option ℕ
+says v t = cond (all is_digit t) (held (worth v t)) None
 
 -- a text of one or more digits, worth at most 2 ^ 64 - 1 (02, W-201, "one or more decimal digits")
-unfoldable pub number_of : List ℕ → Number
-number_of t = cond (ltb (length t) 1) Nothing (says 0 t)
+unfoldable pub number_of : List ℕ → Option ℕ
+number_of t = cond (ltb (length t) 1) None (says 0 t)
 
 -- such a text of at most twenty digits
-unfoldable pub number_in : List ℕ → Number
-number_in t = cond (ltb 20 (length t)) Nothing (number_of t)
+unfoldable pub number_in : List ℕ → Option ℕ
+number_in t = cond (ltb 20 (length t)) None (number_of t)
 
 -- the bytes before the first line feed
 unfoldable pub front : List ℕ → List ℕ
@@ -42,14 +38,14 @@ unfoldable pub after : List ℕ → List ℕ
 after t = drop (length (front t) + 1) t
 
 -- whether a line is a number
-unfoldable pub is_number : Number → Bool
-is_number (Is x) = true
-is_number Nothing = false
+unfoldable pub is_number : Option ℕ → Bool
+is_number (Some x) = true
+is_number None = false
 
 -- a number goes before those of the later lines; another line ends them
-unfoldable pub before : Number → List ℕ → List ℕ
-before (Is x) l = x ∷ l
-before Nothing l = []
+unfoldable pub before : Option ℕ → List ℕ → List ℕ
+before (Some x) l = x ∷ l
+before None l = []
 
 -- each of the first k lines is a number
 unfoldable pub sound : ℕ → List ℕ → Bool
@@ -73,9 +69,9 @@ unfoldable pub lines_in : ℕ → List ℕ → Lines
 lines_in k t = cond (sound k t) (numbers (leading k t)) no_list
 
 -- what the reading answers
-unfoldable pub counted : Lines → Count
-counted (numbers l) = Read (length l)
-counted no_list = NoList
+unfoldable pub counted : Lines → Option ℕ
+counted (numbers l) = Some (length l)
+counted no_list = None
 
 -- a list after the reading: the numbers at its front, or as it was
 unfoldable pub stored : Lines → List ℕ → List ℕ

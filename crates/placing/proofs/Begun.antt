@@ -11,7 +11,7 @@ use lib.Seq.{take_all}
 use Rattle.positions.specs.Columns.{Cols, size, wr, Sound, ops, Says}
 use Rattle.positions.proofs.Places.{upto_length}
 use Rattle.positions.proofs.Ops.{ops_all}
-use Rattle.positions.proofs.Columns.{size_is}
+use Rattle.positions.proofs.OfHistory.{size_is}
 use Rattle.placing.specs.States.{State, is_free, left, laid, state_of, Holds}
 
 -- no place is marked at the outset

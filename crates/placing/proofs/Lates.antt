@@ -18,7 +18,7 @@ use Rattle.positions.specs.Places.{and}
 use Rattle.positions.specs.Columns.{Cols, size, wr, Sound, op, ops, Of}
 use Rattle.positions.proofs.Places.{below}
 use Rattle.positions.proofs.Ops.{keep_ops, in_ops, ops_in}
-use Rattle.positions.proofs.Columns.{size_is, start_is, finish_is, own_is}
+use Rattle.positions.proofs.OfHistory.{size_is, start_is, finish_is, own_is}
 use Rattle.placing.specs.States.{State, is_free, left, Holds, Whose}
 use Rattle.placing.specs.Scanned.{Met}
 use Rattle.placing.specs.Stepped.{ending}

@@ -19,7 +19,7 @@ use Rattle.positions.specs.Places.{upto, and}
 use Rattle.positions.specs.Columns.{Cols, size, wr, is_read, mine, Sound, op, ops, Of}
 use Rattle.positions.proofs.Places.{below, upto_ext, upto_stop, upto_parts, upto_some, no_cond, cond_assoc, cond_both}
 use Rattle.positions.proofs.Ops.{keep_ops}
-use Rattle.positions.proofs.Columns.{size_is, start_is, finish_is, own_is, same_is}
+use Rattle.positions.proofs.OfHistory.{size_is, start_is, finish_is, own_is, same_is}
 use Rattle.placing.specs.States.{State, Tried, is_free, left, laid, state_of, Ready, Holds, Whose}
 use Rattle.placing.specs.Added.{Added}
 use Rattle.placing.specs.Scanned.{late, Asking, Passed, Scanned, broke, passed}

@@ -1,10 +1,11 @@
 -- The state of a search over the columns: a mark for each operation that is placed, and an order that is filled from the back.
 -- Assumes nothing.
-use Rattle.std.specs.Prelude.{ℕ, ◌≤◌, ◌<◌, ◌≡◌, Bool, true, false, List, length, get_or, drop, eqb}
+use Rattle.std.specs.Prelude.{ℕ, ◌+◌, ◌≤◌, ◌<◌, ◌≡◌, Bool, true, false, List, length, get_or, drop, eqb, Option, Some, None, Result, Ok, Err}
 use Rattle.history.specs.Table.{largest_count}
 use Rattle.positions.specs.Places.{upto}
 use Rattle.positions.specs.Columns.{Cols, size, wr}
-use Rattle.placing.specs.declared.Front.{Front}
+use Rattle.placing.specs.declared.Placed.{Placed}
+use Rattle.placing.specs.declared.Failed.{Failed}
 
 -- what is placed is marked, and stands in the order from `at` on; nothing from `top` on is left to place
 pub record State : Type 0 where
@@ -35,8 +36,15 @@ laid s = drop s.at s.order
 abbrev pub state_of : List ℕ → List ℕ → ℕ → ℕ → State
 state_of placed order at top = record { placed = placed; order = order; at = at; top = top }
 
-abbrev pub tried_of : List ℕ → List ℕ → Front → Tried
-tried_of placed order r = record { state = state_of placed order r.at r.top; asked = r.asked; failed = r.failed }
+-- the write that is asked for plus one, 0 for none
+abbrev pub plus_one : Option ℕ → ℕ
+plus_one None = 0
+plus_one (Some v) = v + 1
+
+-- of a step that failed only the order so far is told
+abbrev pub tried_of : List ℕ → List ℕ → Result Placed Failed → Tried
+tried_of placed order (Ok s) = record { state = state_of placed order s.front.at s.front.top; asked = plus_one s.asked; failed = false }
+tried_of placed order (Err f) = record { state = state_of placed order f.at 0; asked = 0; failed = true }
 
 -- nothing of the n operations is set free
 abbrev pub Shrinks : ℕ → List ℕ → List ℕ → Type 0

@@ -3,5 +3,4 @@ pub mod Places
 pub mod Once
 pub mod Latest
 pub mod Ops
-pub mod Columns
-pub mod Arrays
+pub mod OfHistory

@@ -1,3 +1,4 @@
 -- A prepared history in columns.
 pub mod Places
 pub mod Columns
+pub mod View

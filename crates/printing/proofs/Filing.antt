@@ -1,21 +1,22 @@
 -- What is printed of a file or a log, from its loading.
 -- Assumes nothing.
-use Prim.Native.Nat.{ℕ, ◌≤◌}
+use Prim.Native.Nat.{ℕ, ◌*◌, ◌≤◌}
 use mathlib.Core.Path.{◌≡◌, refl, sym, ap, ◌∙◌}
 use mathlib.Core.Logic.{◌≢◌}
 use mathlib.Core.Bool.{Bool, true, false, cond}
 use mathlib.Core.List.{List, [], ◌∷◌}
 use native.Mathlib.Omega.{arith}
 use lib.Dec.{eqb}
-use lib.ListN.{length, length-append}
+use lib.ListN.{length, take, length-append}
 use borrow.Author.Tests.{eq-eqb, ne_eqb}
 use Rattle.history.specs.declared.Answer.{Answer}
 use Rattle.text.specs.Decimal.{line}
 use Rattle.text.proofs.Joins.{line_length}
 use Rattle.records.specs.Records.{table_of}
-use Rattle.files.specs.Files.{file_answer}
+use Rattle.files.specs.Files.{file_answer, read_answer, read_table}
+use Rattle.files.proofs.Loading.{table_whole, loaded_few, loaded_front}
 use Rattle.printing.specs.Texts.{refused_word, refused_line, loaded_text, text_answer, text_after, Printed}
-use Rattle.printing.specs.Files.{file_text}
+use Rattle.printing.specs.Files.{file_text, TableOf}
 
 -- the answer a of a loading, which is b, and a text that was printed
 module _ (text out : List ℕ) (a b : Answer) (e : a ≡ b) (r : Answer) (after : List ℕ) where
@@ -32,6 +33,13 @@ module _ (text out : List ℕ) (a b : Answer) (e : a ≡ b) (r : Answer) (after 
   loading_printed z p =
       let w = eq-eqb b.code 0 (sym (ap (λ x. x.code) e) ∙ z) in
       (p.0 ∙ sym (rw w refl), p.1 ∙ sym (rw w refl))
+
+-- what was read stands at the front of the table
+pub table_loaded : (bytes table : List ℕ) (a : Answer) (loaded : List ℕ) → (a ≡ read_answer bytes table) × (loaded ≡ read_table bytes table) → a.code ≡ 0
+    → TableOf bytes (take (a.rows * 5) loaded)
+table_loaded bytes table a loaded o z =
+    let front = loaded_front bytes table a loaded o z in
+    record { is = front; whole = rw front (table_whole bytes); few = rw front (loaded_few bytes table a loaded o z) }
 
 -- a line of a refusal: a word and two numbers
 refused_bound : (a : Answer) → length (refused_line a) ≤ 51

@@ -1,6 +1,6 @@
 -- The loops over lines of as many numbers each: how long they are, and their writing.
 -- Assumes nothing.
-use Prim.Native.Nat.{ℕ, suc, ◌+◌, ◌-◌, ◌*◌, ◌≤◌, ◌<◌}
+use Prim.Native.Nat.{ℕ, ◌+◌, ◌-◌, ◌*◌, ◌≤◌, ◌<◌}
 use mathlib.Core.Path.{◌≡◌, refl, sym, ap, ap₂, ◌∙◌}
 use mathlib.Core.List.{List, [], ◌∷◌, ◌++◌, flat_map, append_assoc}
 use native.Mathlib.Nat.{mul-le-mul_right}
@@ -9,7 +9,7 @@ use lib.ListN.{length, take, drop, length-append}
 use lib.Seq.{sets, take_at, drop_at}
 use Rattle.text.specs.Decimal.{line, lines_of}
 use Rattle.text.proofs.Joins.{lines_length, lines_next, lines_end}
-use Rattle.text.proofs.Putting.{Putting, put_none, put_more, put_end}
+use Rattle.text.proofs.Putting.{Putting, put_more, put_end}
 
 -- lines of w numbers each are those at the front of the list alone
 pub lines_front : {A : Type 0} (f : A → List ℕ) (w : ℕ) → ((x : A) → length (f x) ≡ w) → (l : List A) (rest : List ℕ) → lines_of w (length l) (flat_map f l ++ rest) ≡ lines_of w (length l) (flat_map f l)
@@ -22,13 +22,6 @@ lines_front f w wide (x ∷ l) rest =
     ∙ sym (ap₂ (λ (y z : List ℕ). line y ++ lines_of w (length l) z) (take_at (f x) (flat_map f l) w (wide x)) (drop_at (f x) (flat_map f l) w (wide x)))
 
 module _ (numbers : List ℕ) (w k : ℕ) where
-  -- the numbers of line i are within
-  pub line_in : (i : ℕ) → i < k → k * w ≤ length numbers → i * w + w ≤ length numbers
-  line_in i h r =
-      let e : suc i * w ≡ i * w + w = omega arith in
-      let m : suc i * w ≤ k * w = mul-le-mul_right w h in
-      omega arith
-
   -- the lines from line i on, and line i as the loop's part of the numbers
   abbrev pub ahead : ℕ → List ℕ
   ahead i = lines_of w (k - i) (drop (i * w) numbers)
@@ -49,9 +42,6 @@ module _ (numbers : List ℕ) (w k : ℕ) where
   pub record Counted (total i : ℕ) : Type 0 where
     pub within : i ≤ k
     pub rest : total + length (ahead i) ≡ length (lines_of w k numbers)
-
-  pub counted_none : Counted 0 0
-  counted_none = record { within = omega arith; rest = omega (arith, ap length ahead_all) }
 
   pub counted_more : (total i v : ℕ) → i < k → v ≡ length (part i) → Counted total i → Counted (total + v) (i + 1)
   counted_more total i v h e c =
@@ -78,9 +68,6 @@ module _ (numbers : List ℕ) (w k : ℕ) where
     pub putting : Putting out₀ at (lines_of w k numbers) out place (ahead i)
 
   module _ (out₀ : List ℕ) (at : ℕ) where
-    pub lined_none : Lined out₀ at out₀ at 0
-    lined_none = record { within = omega arith; putting = rw ahead_all (put_none out₀ at (lines_of w k numbers)) }
-
     pub lined_more : (out next : List ℕ) (place place' i : ℕ) → i < k → (place' ≡ place + length (part i)) × (next ≡ sets out place (part i)) →
         Lined out₀ at out place i → Lined out₀ at next place' (i + 1)
     lined_more out next place place' i h e l =

@@ -9,12 +9,13 @@ use lib.Seq.{sets}
 use borrow.Author.Tests.{lt-ltb, le-ltb}
 use Rattle.lists.proofs.Stores.{sets_behind, sets_front}
 use Rattle.history.specs.declared.Answer.{Answer}
-use Rattle.history.specs.Answer.{short_list, refused, passed}
+use Rattle.history.specs.Answer.{refused, passed}
+use Rattle.history.specs.declared.Code.TheVariants.{ShortList}
 use Rattle.printing.specs.Texts.{text_answer, text_after, Printed}
 
 module _ (text out : List ℕ) (length₀ : ℕ) (long : length₀ ≡ length text) (a : Answer) where
   -- the buffer has no room
-  pub printed_short : length out < length₀ → a ≡ refused short_list 0 → Printed text out a out
+  pub printed_short : length out < length₀ → a ≡ refused ShortList 0 → Printed text out a out
   unfolding text_answer text_after
   printed_short h e =
       let w = lt-ltb (length out) (length text) (omega (arith, long)) in

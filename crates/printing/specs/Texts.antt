@@ -2,12 +2,13 @@
 -- Assumes nothing.
 use Rattle.std.specs.Prelude.{ℕ, cond, List, [], ◌∷◌, ◌++◌, ◌≡◌, ltb, eqb, length, drop}
 use Rattle.history.specs.declared.Answer.{Answer}
-use Rattle.history.specs.Answer.{number, fresh, short_list, refused, passed}
+use Rattle.history.specs.Answer.{number, refused, passed}
+use Rattle.history.specs.declared.Code.TheVariants.{Fresh, ShortList}
 use Rattle.text.specs.Decimal.{line}
 
 -- a text written: its length in the rows field, and the text at the front of the buffer, the rest untouched; or 10 and the buffer as it was (01's table)
 unfoldable pub text_answer : List ℕ → List ℕ → Answer
-text_answer text out = cond (ltb (length out) (length text)) (refused short_list 0) (passed (length text))
+text_answer text out = cond (ltb (length out) (length text)) (refused ShortList 0) (passed (length text))
 
 unfoldable pub text_after : List ℕ → List ℕ → List ℕ
 text_after text out = cond (ltb (length out) (length text)) out (text ++ drop (length text) out)
@@ -25,4 +26,4 @@ refused_line a = refused_word ++ line (a.code ∷ a.row ∷ [])
 
 -- what is printed of a file or a log, by the answer of its loading: a text where it was loaded, else the line of the refusal
 unfoldable pub loaded_text : Answer → List ℕ → List ℕ
-loaded_text a text = cond (eqb a.code (number fresh)) text (refused_line a)
+loaded_text a text = cond (eqb a.code (number Fresh)) text (refused_line a)

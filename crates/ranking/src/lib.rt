@@ -16,24 +16,20 @@ pub fn time(o: Op, stamp: u64) -> u64
     requires { stamp ≤ largest_stamp }
     ensures { result ≡ level_of o + stamp }
 {
-    if o.is_opening() {
-        return stamp;
-    }
-    1 + stamp
+    if o.is_opening() { stamp } else { 1 + stamp }
 }
 
 // The times of the starts and of the finishes of the rows.
 fn stamps_of(table: &[u64], rows: &[u64], starts: &mut [u64], finishes: &mut [u64])
     requires fit { Fit table.now rows.now }
-    requires starts_len { (length starts.old ≡ length rows.now) × (length finishes.old ≡ length rows.now) }
+    requires starts_len { length starts.old ≡ length rows.now }
+    requires finishes_len { length finishes.old ≡ length rows.now }
     ensures { Stamps table.now rows.now starts.new finishes.new }
 {
-    let mut i: usize = 0;
-    while i < rows.len() {
-        let o = Op::at(table, rows[i] as usize);
+    for (i, x) in rows.iter().enumerate() {
+        let o = Op::at(table, *x as usize);
         starts[i] = time(o, o.start);
         finishes[i] = time(o, o.finish);
-        i += 1;
     }
 }
 
@@ -43,15 +39,12 @@ fn place(rows: &[u64], list: &mut [u64]) -> bool
     requires rows_differ { RowsDiffer rows.now }
     ensures { result ≡ true → list.new ≡ sort (rises rows.now) (up_to (length rows.now)) }
 {
-    let n = list.len();
-    let mut i: usize = 0;
-    while i < rows.len() {
-        let row = rows[i] as usize;
-        if n <= row {
+    for (i, x) in rows.iter().enumerate() {
+        let row = *x as usize;
+        if list.len() <= row {
             return false;
         }
         list[row] = i as u64;
-        i += 1;
     }
     true
 }
@@ -62,10 +55,9 @@ fn by_row(rows: &[u64], list: &mut [u64])
     requires rows_differ { RowsDiffer rows.now }
     ensures { list.new ≡ sort (rises rows.now) (up_to (length list.old)) }
 {
-    if place(rows, list) {
-        return;
+    if !place(rows, list) {
+        sorting::places_by(rows, list);
     }
-    sorting::places_by(rows, list);
 }
 
 // The positions by rising finish; those that have one finish by row, in which sequence they are put first, as the sort is stable.
@@ -82,17 +74,14 @@ fn by_finish(rows: &[u64], finishes: &[u64], list: &mut [u64])
 fn comes_first(starts: &[u64], i: usize, finish: u64) -> bool
     ensures { result ≡ comes_first starts.now i finish }
 {
-    if i < starts.len() {
-        return starts[i] <= finish;
-    }
-    false
+    i < starts.len() && starts[i] <= finish
 }
 
 fn doubled(rank: usize) -> u64
     requires { rank < 2 * largest_count }
     ensures { result ≡ 2 * rank }
 {
-    2 * (rank as u64)
+    2 * rank as u64
 }
 
 // Puts twice its rank in the place of each start and of each finish, with the positions by rising finish. It ends with the finishes: each start has
@@ -102,8 +91,9 @@ fn merge(list: &[u64], start: &mut [u64], finish: &mut [u64])
     requires list_len_bound { length list.now ≤ largest_count }
     ensures { Merged start.old finish.old list.now start.new finish.new }
 {
-    let mut i: usize = 0;
-    let mut j: usize = 0;
+    let mut i = 0;
+    let mut j = 0;
+    // Of two lists the one with the lower stamp goes on.
     while j < list.len() {
         let at = list[j] as usize;
         if comes_first(start, i, finish[at]) {

@@ -2,14 +2,13 @@
 -- Assumes nothing.
 use Prim.Native.Nat.{ℕ, zero, suc, ◌+◌, ◌*◌, ◌^◌, ◌≤◌, ◌<◌}
 use mathlib.Core.Path.{◌≡◌, refl, sym, ap, ◌∙◌}
-use mathlib.Core.Logic.{◌≢◌}
 use mathlib.Core.Bool.{Bool, true, false, cond}
 use mathlib.Core.List.Memᴰ.{head as here}
 use mathlib.Core.List.Memᴰ.{tail as there}
 use mathlib.Core.List.{List, [], ◌∷◌, ◌++◌, map, flat_map, append-nil, Memᴰ as In}
 use native.Mathlib.Nat.{add-zero, zero-add}
 use native.Mathlib.Omega.{arith}
-use borrow.Author.Tests.{eq-eqb, ne_eqb, eqb-true, ltb-true, ltb-false}
+use borrow.Author.Tests.{eqb-true, ltb-true, ltb-false}
 use lib.Dec.{ltb, eqb}
 use lib.ListN.{length, length-map, get_or, take, drop, length-append, length-drop, take-append-drop, drop_of_length-le}
 use lib.Seq.{get_or-take, get_or-drop, take_at, drop_at, take-add, drop-drop}
@@ -39,12 +38,6 @@ most_length kind = go (eqb kind 3)
     go : (b : Bool) → 2 + cond b 18 34 ≤ 36
     go true = omega arith
     go false = omega arith
-
-pub short_length : (kind : ℕ) → kind ≡ 3 → record_length kind ≡ 20
-short_length kind k = rw (eq-eqb kind 3 k)
-
-pub long_length : (kind : ℕ) → kind ≢ 3 → record_length kind ≡ 36
-long_length kind k = rw (ne_eqb kind 3 k)
 
 pub length_record : (r : Row) → length (record_of r) ≡ record_length r.kind
 unfolding record_of little_endian

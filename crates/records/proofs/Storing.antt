@@ -1,23 +1,30 @@
 -- Runs of stores, one behind the other: those of a record's fields are those of the record.
 -- Assumes nothing.
-use Prim.Native.Nat.{ℕ, suc, ◌+◌}
+use Prim.Native.Nat.{ℕ, suc, ◌+◌, ◌≤◌}
 use mathlib.Core.Path.{◌≡◌, refl, sym, ap, ◌∙◌}
 use mathlib.Core.Logic.{◌≢◌}
 use mathlib.Core.Bool.{cond}
-use mathlib.Core.List.{List, [], ◌∷◌, ◌++◌, append-nil}
+use mathlib.Core.List.{List, [], ◌∷◌, ◌++◌, append-nil, append_assoc}
 use native.Mathlib.Omega.{arith}
 use borrow.Author.Tests.{eq-eqb, ne_eqb}
 use lib.Dec.{eqb}
-use lib.ListN.{length, set, length-append}
-use lib.Seq.{sets}
+use lib.ListN.{length, take, drop, set, length-append}
+use lib.Seq.{sets, sets-eq, drop-drop}
+use borrow.Rule.Slice.PartMut.{put_mid}
+use Rattle.lists.proofs.Stores.{sets_append}
 use Rattle.history.specs.declared.Row.{Row}
 use Rattle.records.specs.Records.{little_endian, body_length, head_bytes, stamp_bytes, record_of}
 use Rattle.records.proofs.Numbers.{length_bytes}
 
 -- the stores of vs, then those of ws behind them
 pub sets_on : (vs ws l : List ℕ) (i j : ℕ) → i + length vs ≡ j → sets (sets l i vs) j ws ≡ sets l i (vs ++ ws)
-sets_on [] ws l i j e = let k : j ≡ i = omega arith in rw k
-sets_on (a ∷ vs) ws l i j e = sets_on vs ws (set l i a) (suc i) j (omega arith)
+sets_on vs ws l i j e = rw (← e) (sets_append vs ws l i)
+
+-- what is copied over a part is stored there
+pub put_stores : (l vs : List ℕ) (at n : ℕ) → length vs ≡ n → at + n ≤ length l → put_mid at n l vs ≡ sets l at vs
+put_stores l vs at n e h =
+    let size : at + length vs ≡ at + n = omega arith in
+    sym (sets-eq vs l at (omega (arith, e)) ∙ rw (size, ← drop-drop n at l) (append_assoc (take at l) vs (drop n (drop at l))))
 
 -- `vs` stored at at + k, at + k + 1, ..: on a list that is written out it computes to the stores as the code writes them
 abbrev pub stores : List ℕ → ℕ → ℕ → List ℕ → List ℕ
@@ -27,10 +34,6 @@ stores l at k (a ∷ vs) = stores (set l (at + k) a) at (suc k) vs
 pub stores_sets : (vs l : List ℕ) (at k i : ℕ) → at + k ≡ i → stores l at k vs ≡ sets l i vs
 stores_sets [] l at k i e = refl
 stores_sets (a ∷ vs) l at k i e = rw e (stores_sets vs (set l i a) at (suc k) (suc i) (omega arith))
-
--- the same, where the first store is at `at` itself
-pub stores_first : (l : List ℕ) (at a : ℕ) (vs : List ℕ) → stores (set l at a) at 1 vs ≡ sets l at (a ∷ vs)
-stores_first l at a vs = stores_sets vs (set l at a) at 1 (suc at) (omega arith)
 
 -- The stores of a record's fields, one behind the other, are the stores of the record.
 pub head_stores : (l : List ℕ) (at kind register value : ℕ) →

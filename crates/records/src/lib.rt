@@ -1,12 +1,12 @@
 // A number and its bytes, a record of bytes and its row of numbers, each stored from the other.
 #![tactic(auto)]
 
-ghost use Rattle.std.specs.Prelude.{◌≡◌, ◌≢◌, ◌+◌, ◌*◌, ◌%◌, ◌≤◌, ◌<◌, length};
+ghost use Rattle.std.specs.Prelude.{◌≡◌, ◌≢◌, ◌+◌, ◌*◌, ◌≤◌, ◌<◌, length};
 ghost use Rattle.std.proofs.lemmas.List.Edits.{sets};
 ghost use Rattle.history.specs.Table.{cell, row_at};
 ghost use Rattle.records.specs.Records.{little_endian, field, body_length, record_length, next, stamp_of, record_from, head_bytes, stamp_bytes, record_of, cells};
 
-use history::{Op, Row};
+use history::{Kind, Row};
 
 // What the length field holds, the bytes behind it: of a record with stamps, and of an opening's, which has none.
 pub const BODY: u64 = 34;
@@ -18,10 +18,15 @@ pub const RECORD: usize = 36;
 
 pub const SHORT_RECORD: usize = 20;
 
-fn wide(x: u8) -> u64
-    ensures { (result ≡ x) × (result < 256) }
+// The number of N bytes at a place, the lowest first.
+fn number<const N: usize>(bytes: &[u8], at: usize) -> u64
+    requires size { N ≤ 8 }
+    requires inside { at + N ≤ length bytes.now }
+    ensures { result ≡ field bytes.now at N }
 {
-    x as u64
+    let mut raw = [0u8; 8];
+    raw[..N].copy_from_slice(&bytes[at..at + N]);
+    u64::from_le_bytes(raw)
 }
 
 // The number of two bytes at a place, which the caller keeps within the slice.
@@ -29,69 +34,36 @@ pub fn two(bytes: &[u8], at: usize) -> u64
     requires { at + 2 ≤ length bytes.now }
     ensures { result ≡ field bytes.now at 2 }
 {
-    wide(bytes[at]) + 256 * wide(bytes[at + 1])
+    number::<2>(bytes, at)
 }
 
-// The number of eight bytes at a place, from the highest byte down.
+// The number of eight bytes at a place.
 pub fn eight(bytes: &[u8], at: usize) -> u64
     requires { at + 8 ≤ length bytes.now }
     ensures { result ≡ field bytes.now at 8 }
 {
-    let h = wide(bytes[at + 7]);
-    let g = wide(bytes[at + 6]) + 256 * h;
-    let f = wide(bytes[at + 5]) + 256 * g;
-    let e = wide(bytes[at + 4]) + 256 * f;
-    let d = wide(bytes[at + 3]) + 256 * e;
-    let c = wide(bytes[at + 2]) + 256 * d;
-    let b = wide(bytes[at + 1]) + 256 * c;
-    wide(bytes[at]) + 256 * b
+    number::<8>(bytes, at)
 }
 
-fn low(x: u64) -> u8
-    ensures { result ≡ x % 256 }
+// Stores a number's N low bytes, the lowest first.
+fn put<const N: usize>(bytes: &mut [u8], at: usize, x: u64)
+    requires size { N ≤ 8 }
+    requires inside { at + N ≤ length bytes.old }
+    ensures { bytes.new ≡ sets bytes.old at (little_endian N x) }
 {
-    (x % 256) as u8
-}
-
-// Stores a number's two low bytes.
-fn put_two(bytes: &mut [u8], at: usize, x: u64)
-    requires { at + 2 ≤ length bytes.old }
-    ensures { bytes.new ≡ sets bytes.old at (little_endian 2 x) }
-{
-    bytes[at] = low(x);
-    bytes[at + 1] = low(x / 256);
-}
-
-// Stores a number's eight bytes, the lowest first.
-fn put_eight(bytes: &mut [u8], at: usize, x: u64)
-    requires { at + 8 ≤ length bytes.old }
-    ensures { bytes.new ≡ sets bytes.old at (little_endian 8 x) }
-{
-    let b = x / 256;
-    let c = b / 256;
-    let d = c / 256;
-    let e = d / 256;
-    let f = e / 256;
-    let g = f / 256;
-    let h = g / 256;
-    bytes[at] = low(x);
-    bytes[at + 1] = low(b);
-    bytes[at + 2] = low(c);
-    bytes[at + 3] = low(d);
-    bytes[at + 4] = low(e);
-    bytes[at + 5] = low(f);
-    bytes[at + 6] = low(g);
-    bytes[at + 7] = low(h);
+    let raw = x.to_le_bytes();
+    bytes[at..at + N].copy_from_slice(&raw[..N]);
 }
 
 // What the length field of a record of some kind holds.
 pub fn body_length(kind: u64) -> u64
     ensures { result ≡ body_length kind }
 {
-    if kind == Op::OPENING {
-        return SHORT_BODY;
+    if kind == Kind::Opening as u64 {
+        SHORT_BODY
+    } else {
+        BODY
     }
-    BODY
 }
 
 // Where the record behind the one at a place begins.
@@ -107,10 +79,11 @@ fn stamp(bytes: &[u8], kind: u64, at: usize) -> u64
     requires { kind ≢ 3 → at + 8 ≤ length bytes.now }
     ensures { result ≡ stamp_of kind (field bytes.now at 8) }
 {
-    if kind == Op::OPENING {
-        return 0;
+    if kind == Kind::Opening as u64 {
+        0
+    } else {
+        eight(bytes, at)
     }
-    eight(bytes, at)
 }
 
 // Puts the five numbers of the record at a place into a row of the table.
@@ -133,10 +106,10 @@ fn put_head(bytes: &mut [u8], at: usize, kind: u64, register: u64, value: u64)
     requires { at + 20 ≤ length bytes.old }
     ensures { bytes.new ≡ sets bytes.old at (head_bytes kind register value) }
 {
-    put_two(bytes, at, body_length(kind));
-    put_two(bytes, at + 2, kind);
-    put_eight(bytes, at + 4, register);
-    put_eight(bytes, at + 12, value);
+    put::<2>(bytes, at, body_length(kind));
+    put::<2>(bytes, at + 2, kind);
+    put::<8>(bytes, at + 4, register);
+    put::<8>(bytes, at + 12, value);
 }
 
 // Stores the bytes of two stamps.
@@ -144,8 +117,8 @@ fn put_stamps(bytes: &mut [u8], at: usize, start: u64, finish: u64)
     requires { at + 16 ≤ length bytes.old }
     ensures { bytes.new ≡ sets bytes.old at (stamp_bytes start finish) }
 {
-    put_eight(bytes, at, start);
-    put_eight(bytes, at + 8, finish);
+    put::<8>(bytes, at, start);
+    put::<8>(bytes, at + 8, finish);
 }
 
 // Puts a row of the table into the record at a place; where the next one begins comes back.
@@ -164,14 +137,15 @@ pub fn write_row(table: &[u64], row: usize, bytes: &mut [u8], at: usize) -> usiz
         table[base + Row::REGISTER],
         table[base + Row::VALUE],
     );
-    if kind == Op::OPENING {
-        return at + SHORT_RECORD;
+    if kind == Kind::Opening as u64 {
+        at + SHORT_RECORD
+    } else {
+        put_stamps(
+            bytes,
+            at + SHORT_RECORD,
+            table[base + Row::START],
+            table[base + Row::FINISH],
+        );
+        at + RECORD
     }
-    put_stamps(
-        bytes,
-        at + SHORT_RECORD,
-        table[base + Row::START],
-        table[base + Row::FINISH],
-    );
-    at + RECORD
 }

@@ -36,11 +36,5 @@ pub fn road(bytes: &[u8], out: &mut [u8]) -> Answer
     ensures text { Printed (file_text bytes.now report_of) out.old result out.new }
     ensures said { (register : ℕ) → Meant (table_of bytes.now) register }
 {
-    let mut table = [0u64; Row::LARGEST_TABLE];
-    let loaded = files::read(bytes, &mut table);
-    if loaded.code != 0 {
-        return printing::refusal(loaded, out);
-    }
-    let n = (loaded.rows as usize) * Row::COLUMNS;
-    report(&table[..n], out)
+    printing::of_file(bytes, out, |table, out| report(table, out))
 }

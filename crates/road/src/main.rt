@@ -3,12 +3,10 @@
 
 fn main(rt: HostRuntime) {
     let mut input = [0u8; files::LONGEST];
-    let got = console::take(&mut rt.stdin(), &mut input);
-    if !got.sound {
+    let Ok(n) = console::take(&mut rt.stdin(), &mut input) else {
         console::complain(&rt.stderr(), b"road: standard input cannot be read\n");
         return;
-    }
-    let n = got.count;
+    };
     let mut out = [0u8; 131072];
     let printed = report::road(&input[..n], &mut out);
     console::print(&rt, &rt.stderr(), &out, printed.rows);

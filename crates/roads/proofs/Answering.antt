@@ -2,32 +2,29 @@
 -- Assumes nothing.
 use Prim.Native.Nat.{ℕ, ◌+◌, ◌*◌, ◌-◌, ◌%◌, ◌≤◌, ◌<◌}
 use mathlib.Core.Path.{◌≡◌, refl, sym, ap, ◌∙◌}
-use mathlib.Core.Logic.{◌≢◌, inl, inr}
+use mathlib.Core.Logic.{◌≢◌}
 use mathlib.Core.Bool.{true, false}
 use mathlib.Core.List.{List, [], ◌++◌, flat_map, append-nil, append_assoc}
-use native.Mathlib.Decide.{ℕ_discrete}
 use native.Mathlib.Omega.{arith}
 use lib.ListN.{length, get_or, take, drop, length-drop, length-replicate, drop_of_length-le}
 use lib.Seq.{sets, sets-eq, take_all, drop-drop}
 use borrow.Author.Tests.{eq-eqb, ne_eqb, lt-ltb, le-ltb, ltb-false}
 use borrow.Rule.Slice.PartMut.{mid_of, put_mid}
-use Rattle.lists.proofs.Tests.{both}
 use Rattle.history.specs.declared.Answer.{Answer}
 use Rattle.history.specs.Table.{largest_count, row_count, history}
-use Rattle.history.specs.Answer.{ragged, overfull, no_such_question, short_list, refused, first_met, passed, numbers, list_after}
+use Rattle.history.specs.Answer.{refused, first_met, passed, numbers, list_after}
+use Rattle.history.specs.declared.Code.TheVariants.{Ragged, Overfull, NoSuchQuestion, ShortList}
 use Rattle.history.proofs.Rows.{rows_few}
 use Rattle.history.proofs.Refusals.{if_so_lem, code_no_fault}
 use Rattle.methods.specs.Mark.{no_question, written, mark}
-use Rattle.marker.specs.Called.{Asked}
+use Rattle.marker.specs.declared.Question.{Question}
+use Rattle.marker.specs.Questions.{number}
+use Rattle.marker.proofs.Asking.{asked_is}
 use Rattle.marks.specs.Marks.{answer_to}
 use Rattle.marks.proofs.Places.{same_answer}
 use Rattle.marks.proofs.Saying.{places, answer_said, never_ten}
 use Rattle.lists.proofs.Entries.{flat_at, flat_part}
 use Rattle.roads.specs.Answers.{fields, answers_of, answers_tests, answers_answer, answers_list, Single, Each}
-
--- m numbers at the front of a list are as many as are taken
-pub own_front : (m : ℕ) (list numbers : List ℕ) → (m ≡ length numbers) × (take m list ≡ numbers) → m ≡ length (take m list)
-own_front m list numbers e = e.0 ∙ sym (ap length e.1)
 
 -- an answer written from a place of the list on
 pub put_is : (a : Answer) (list : List ℕ) (place : ℕ) → place + 4 ≤ length list → (new : List ℕ) → new ≡ list_after a (mid_of place (length list - place) list) →
@@ -62,33 +59,21 @@ pub fields_stored : (t : List ℕ) (register question allowance place : ℕ) (li
 unfolding fields
 fields_stored t register question allowance place list next one e n = n ∙ ap (λ (x : Answer). sets list place (numbers x)) e
 
--- a question that is not refused is one of the three
-pub asked_of : (question : ℕ) → no_question question ≡ false → Asked question
-asked_of question e =
-    elim (ℕ_discrete question 1) [
-      | yes p ↦ inl p
-      | no p ↦
-          elim (ℕ_discrete question 2) [
-            | yes q ↦ inr (inl q)
-            | no q ↦
-                elim (ℕ_discrete question 3) [
-                  | yes r ↦ inr (inr r)
-                  | no r ↦ absurd (both (rw (ne_eqb question 1 p, ne_eqb question 2 q, ne_eqb question 3 r) refl) e)
-                ]
-          ]
-    ]
+-- a number that is a question's is not refused
+pub asked_for : (question : ℕ) (q : Question) → number q ≡ question → no_question question ≡ false
+asked_for question q e = sym (asked_is q ∙ ap no_question e)
 
 -- The call, for each way through.
 module _ (t registers : List ℕ) (question allowance : ℕ) (list : List ℕ) where
   abbrev Left : Answer → List ℕ → Type 0
   Left a after = (a ≡ answers_answer t registers question list) × (after ≡ answers_list t registers question allowance list)
 
-  pub left_ragged : (a : Answer) → length t % 5 ≢ 0 → a ≡ refused ragged 0 → Left a list
+  pub left_ragged : (a : Answer) → length t % 5 ≢ 0 → a ≡ refused Ragged 0 → Left a list
   unfolding answers_answer answers_list answers_tests first_met
   left_ragged a h e = let p = ne_eqb (length t % 5) 0 h in (e ∙ sym (rw p refl), sym (rw p refl))
 
   module _ (h : length t % 5 ≡ 0) where
-    pub left_overfull : (a : Answer) → largest_count < row_count t → a ≡ refused overfull 0 → Left a list
+    pub left_overfull : (a : Answer) → largest_count < row_count t → a ≡ refused Overfull 0 → Left a list
     unfolding answers_answer answers_list answers_tests first_met
     left_overfull a l e =
         let p = eq-eqb (length t % 5) 0 h in
@@ -96,7 +81,7 @@ module _ (t registers : List ℕ) (question allowance : ℕ) (list : List ℕ) w
         (e ∙ sym (rw (p, q) refl), sym (rw (p, q) refl))
 
     module _ (few : row_count t ≤ largest_count) where
-      pub left_unasked : (a : Answer) → no_question question ≡ true → a ≡ refused no_such_question 0 → Left a list
+      pub left_unasked : (a : Answer) → no_question question ≡ true → a ≡ refused NoSuchQuestion 0 → Left a list
       unfolding answers_answer answers_list answers_tests first_met
       left_unasked a n e =
           let p = eq-eqb (length t % 5) 0 h in
@@ -104,7 +89,7 @@ module _ (t registers : List ℕ) (question allowance : ℕ) (list : List ℕ) w
           (e ∙ sym (rw (p, q, n) refl), sym (rw (p, q, n) refl))
 
       module _ (asked : no_question question ≡ false) where
-        pub left_short : (a : Answer) → length list < length registers * 4 → a ≡ refused short_list 0 → Left a list
+        pub left_short : (a : Answer) → length list < length registers * 4 → a ≡ refused ShortList 0 → Left a list
         unfolding answers_answer answers_list answers_tests first_met
         left_short a l e =
             let p = eq-eqb (length t % 5) 0 h in

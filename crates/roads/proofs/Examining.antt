@@ -2,7 +2,7 @@
 -- Assumes nothing.
 use Prim.Native.Nat.{ℕ, ◌≤◌}
 use mathlib.Core.Path.{◌≡◌, refl, sym, ap, ap₂, ◌∙◌}
-use mathlib.Core.Logic.{inl, inr, ◌≢◌}
+use mathlib.Core.Logic.{◌≢◌}
 use mathlib.Core.Bool.{false}
 use mathlib.Core.List.{List, map}
 use native.Mathlib.Omega.{arith}
@@ -20,23 +20,20 @@ use Rattle.writers.specs.Writers.{Within}
 use Rattle.screening.proofs.Examined.{past_three}
 use Rattle.lists.proofs.Sorts.{sort_length}
 use Rattle.preparation.specs.Times.{begins_first, by_time}
-use Rattle.methods.specs.Mark.{Outcome, no_question, mark, row_numbers}
+use Rattle.methods.specs.Mark.{Outcome, mark, row_numbers}
 use Rattle.ranking.specs.Ranked.{Fit}
 use Rattle.columns.specs.Rows.{Listed}
 use Rattle.columns.proofs.Lent.{gathered_fit}
 use Rattle.searches.specs.Replies.{outcome}
-use Rattle.marker.specs.Called.{Asked, judged_by}
+use Rattle.marker.specs.declared.Question.{Question}
+use Rattle.marker.specs.Questions.{number}
+use Rattle.marker.specs.Called.{judged_by}
+use Rattle.marker.proofs.Asking.{asked_is}
 use Rattle.marker.proofs.Refusing.{met_refused, met_passed, mark_refused, mark_marked}
 use Rattle.marks.specs.Marks.{answer_to}
 use Rattle.marks.proofs.Places.{same_answer}
 use Rattle.marks.proofs.Saying.{places}
 use Rattle.roads.specs.Examined.{Sound, RowsOf, Examined}
-
--- a question that is asked is not refused
-pub asked_is : (question : ℕ) → Asked question → false ≡ no_question question
-asked_is question (inl q) = rw q refl
-asked_is question (inr (inl q)) = rw q refl
-asked_is question (inr (inr q)) = rw q refl
 
 module _ (t : List ℕ) (s : Sound t) (register : ℕ) where
   abbrev h : List Op
@@ -99,21 +96,21 @@ module _ (t : List ℕ) (s : Sound t) (register : ℕ) where
       let xs = tests (length t) h false in
       q ∙ no_fault_answer xs (passed (length h)) (code_no_fault xs (tests_coded (length t) h false) (passed (length h)) (sym (ap (λ x. x.code) q) ∙ z))
 
-  module _ (question allowance : ℕ) (asked : Asked question) (met : Answer) where
+  module _ (question : Question) (allowance : ℕ) (met : Answer) where
     -- a refusal of the screening is the marking call's
-    pub answer_refused : met ≡ screening t register → met.code ≢ 0 → met ≡ answer_to t register question allowance
+    pub answer_refused : met ≡ screening t register → met.code ≢ 0 → met ≡ answer_to t register (number question) allowance
     unfolding answer_to screening
     answer_refused q n =
         ap (λ (o : Outcome). o.answer)
-        (mark_refused t register question allowance places met (met_refused (length t) h question places false (asked_is question asked) met q (length places) refl n) n)
+        (mark_refused t register (number question) allowance places met (met_refused (length t) h (number question) places false (asked_is question) met q (length places) refl n) n)
 
     -- THE MARK, from what the method of the question gives
     pub answer_marked : met ≡ screening t register → met.code ≡ 0 → (list : List ℕ) → length list ≡ largest_count → (a : Answer) (after : List ℕ) →
-        outcome a after ≡ judged_by t register question allowance list → a ≡ answer_to t register question allowance
+        outcome a after ≡ judged_by t register (number question) allowance list → a ≡ answer_to t register (number question) allowance
     unfolding answer_to screening mark
     answer_marked q z list long a after j =
         let few : met.rows ≤ largest_count = omega (arith, ap (λ x. x.rows) (passed_is met q z), rows_fit) in
-        let first = met_passed (length t) h question list false (asked_is question asked) met q largest_count long z few in
-        let e = mark_marked t register question allowance list met first z (outcome a after) j in
+        let first = met_passed (length t) h (number question) list false (asked_is question) met q largest_count long z few in
+        let e = mark_marked t register (number question) allowance list met first z (outcome a after) j in
         ap (λ (o : Outcome). o.answer) e
-        ∙ same_answer h list places (omega (arith, rows_fit, long)) (omega (arith, rows_fit, length-replicate {A = ℕ} largest_count 0)) (length t) question allowance
+        ∙ same_answer h list places (omega (arith, rows_fit, long)) (omega (arith, rows_fit, length-replicate {A = ℕ} largest_count 0)) (length t) (number question) allowance

@@ -4,7 +4,8 @@ use Rattle.std.specs.Prelude.{ℕ, ◌*◌, ◌/◌, ◌%◌, ◌≤◌, ◌<◌
 use mathlib.Core.List.{List, [], ◌∷◌, flat_map}
 use Rattle.history.specs.declared.Answer.{Answer}
 use Rattle.history.specs.Table.{history, largest_count}
-use Rattle.history.specs.Answer.{number, fresh, ragged, overfull, no_such_question, short_list, Test, test, if_so, first_met, passed, numbers}
+use Rattle.history.specs.Answer.{number, Test, test, if_so, first_met, passed, numbers}
+use Rattle.history.specs.declared.Code.TheVariants.{Fresh, Ragged, Overfull, NoSuchQuestion, ShortList}
 use Rattle.methods.specs.Mark.{no_question, written, mark}
 use Rattle.marks.specs.Marks.{answer_to, Ample, Said}
 
@@ -20,10 +21,10 @@ answers_of t registers question allowance = flat_map (fields t question allowanc
 -- of registers and the places
 unfoldable pub answers_tests : ℕ → ℕ → ℕ → ℕ → List Test
 answers_tests size count question room =
-    test ragged (if_so (not (eqb (size % 5) 0)))
-    ∷ test overfull (if_so (ltb largest_count (size / 5)))
-    ∷ test no_such_question (if_so (no_question question))
-    ∷ test short_list (if_so (ltb room (count * 4)))
+    test Ragged (if_so (not (eqb (size % 5) 0)))
+    ∷ test Overfull (if_so (ltb largest_count (size / 5)))
+    ∷ test NoSuchQuestion (if_so (no_question question))
+    ∷ test ShortList (if_so (ltb room (count * 4)))
     ∷ []
 
 -- the call's own answer is code 0 and zeros (02, W-204); and the list after the call, which a refusal leaves as it was
@@ -32,14 +33,14 @@ answers_answer t registers question list = first_met (answers_tests (length t) (
 
 unfoldable pub answers_list : List ℕ → List ℕ → ℕ → ℕ → List ℕ → List ℕ
 answers_list t registers question allowance list =
-    cond (eqb (answers_answer t registers question list).code (number fresh)) (written (answers_of t registers question allowance) list) list
+    cond (eqb (answers_answer t registers question list).code (number Fresh)) (written (answers_of t registers question allowance) list) list
 
 -- What the four numbers at place i of a list are and say: the fields of the marking call with whatever list has a place for each of the
 -- register's rows; with an ample allowance their code says what `Said` says; and it is never 10.
 pub record Single (t : List ℕ) (register question allowance : ℕ) (list : List ℕ) (i : ℕ) : Type 0 where
   pub single : (l : List ℕ) → length (history t register) ≤ length l → take 4 (drop (i * 4) list) ≡ numbers (mark t register question allowance l).answer
   pub said : Ample question allowance → Said t register question (get_or list (i * 4) 0)
-  pub room : get_or list (i * 4) 0 ≢ number short_list
+  pub room : get_or list (i * 4) 0 ≢ number ShortList
 
 -- the same of each listed register at its place
 abbrev pub Each : List ℕ → List ℕ → ℕ → ℕ → List ℕ → Type 0

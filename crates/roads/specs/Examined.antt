@@ -28,7 +28,3 @@ Examines t rows met after = (register : ℕ) → RowsOf t register rows → Exam
 -- what the marking call answers for whatever register was screened so
 abbrev pub Answers : List ℕ → Answer → List ℕ → ℕ → ℕ → Answer → Type 0
 Answers t met rows question allowance a = (register : ℕ) → Examined t register met rows → a ≡ answer_to t register question allowance
-
--- and for whatever register has the rows
-abbrev pub AnswersRows : List ℕ → List ℕ → ℕ → ℕ → Answer → Type 0
-AnswersRows t rows question allowance a = (register : ℕ) → RowsOf t register rows → a ≡ answer_to t register question allowance

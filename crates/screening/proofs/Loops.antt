@@ -6,7 +6,7 @@ use mathlib.Core.Bool.{true, false}
 use mathlib.Core.List.{List, [], ◌∷◌, ◌++◌, map, append-nil}
 use native.Mathlib.Numerals.{add-one}
 use native.Mathlib.Omega.{arith}
-use lib.ListN.{length, take, set, length-set, length-take}
+use lib.ListN.{length, take, set, length-append, length-set, length-take}
 use lib.Seq.{take-suc-set, length-take-le}
 use Rattle.lists.specs.Lists.{keep, put, up_to, from}
 use Rattle.lists.proofs.Ranges.{up_to_more}
@@ -17,6 +17,27 @@ use Rattle.history.specs.Answer.{first_met, passed}
 use Rattle.history.proofs.Rows.{in_rows, rows_rise, rows_few, history_count}
 use Rattle.screening.specs.Ready.{Gathered}
 use Rattle.conditions.specs.Tests.{row_tests, Listed}
+
+-- one row more
+kept_on : (t : List ℕ) (register i : ℕ) → keep (bears t register) (up_to (i + 1)) ≡ keep (bears t register) (up_to i) ++ put (bears t register i) i []
+unfolding keep
+kept_on t register i = rw (up_to_more i) (keep_append (bears t register) (up_to i) (i ∷ []))
+
+-- how many of the first i rows bear the register
+abbrev pub counted : List ℕ → ℕ → ℕ → ℕ
+counted t register i = length (keep (bears t register) (up_to i))
+
+pub count_in : (t : List ℕ) (register i : ℕ) → bears t register i ≡ true → counted t register (i + 1) ≡ counted t register i + 1
+unfolding put
+count_in t register i e = ap length (kept_on t register i ∙ rw e) ∙ length-append (keep (bears t register) (up_to i)) (i ∷ [])
+
+pub count_out : (t : List ℕ) (register i : ℕ) → bears t register i ≡ false → counted t register (i + 1) ≡ counted t register i
+unfolding put
+count_out t register i e = ap length (kept_on t register i ∙ rw e (append-nil (keep (bears t register) (up_to i))))
+
+pub count_end : (t : List ℕ) (register : ℕ) → counted t register (row_count t) ≡ length (history t register)
+unfolding rows_of
+count_end t register = sym (history_count t register)
 
 module _ (t : List ℕ) (register : ℕ) (list₀ : List ℕ) where
   -- the first i rows are looked at, and m of them gathered
@@ -31,14 +52,10 @@ module _ (t : List ℕ) (register : ℕ) (list₀ : List ℕ) where
   gather_none = record { few = omega arith; within = omega arith; long = refl; front = refl }
 
   module _ (i m : ℕ) (list : List ℕ) (l : i < row_count t) (g : Gathering i m list) where
-    keep_more : keep (bears t register) (up_to (i + 1)) ≡ keep (bears t register) (up_to i) ++ put (bears t register i) i []
-    unfolding keep
-    keep_more = rw (up_to_more i) (keep_append (bears t register) (up_to i) (i ∷ []))
-
     pub gather_out : bears t register i ≡ false → Gathering (i + 1) m list
     unfolding put
     gather_out e =
-        record { few = omega (arith, g.few); within = omega arith; long = g.long; front = g.front ∙ sym (keep_more ∙ rw e (append-nil (keep (bears t register) (up_to i)))) }
+        record { few = omega (arith, g.few); within = omega arith; long = g.long; front = g.front ∙ sym (kept_on t register i ∙ rw e (append-nil (keep (bears t register) (up_to i)))) }
 
     pub gather_in : bears t register i ≡ true → m < length list → Gathering (i + 1) (m + 1) (set list m i)
     unfolding put
@@ -47,7 +64,7 @@ module _ (t : List ℕ) (register : ℕ) (list₀ : List ℕ) where
           few = omega (arith, g.few);
           within = omega arith;
           long = length-set list m i ∙ g.long;
-          front = rw (add-one m) (take-suc-set list m i k) ∙ ap (λ (z : List ℕ). z ++ (i ∷ [])) g.front ∙ sym (keep_more ∙ rw e);
+          front = rw (add-one m) (take-suc-set list m i k) ∙ ap (λ (z : List ℕ). z ++ (i ∷ [])) g.front ∙ sym (kept_on t register i ∙ rw e);
         }
 
   pub gather_end : (i m : ℕ) (list : List ℕ) → row_count t ≤ i → row_count t ≤ length list₀ → Gathering i m list → (m ≡ length (rows_of t register)) × (take m list ≡ rows_of t register)
@@ -79,9 +96,6 @@ module _ (t : List ℕ) (register m : ℕ) (rows : List ℕ) (few : row_count t 
 
   pub gathered_inside : m ≤ length rows
   gathered_inside = omega (arith, gathered_long, length-take m rows)
-
-  pub gathered_size : m ≡ length (take m rows)
-  gathered_size = sym gathered_long
 
   pub gathered_answer : (r : Answer) → r ≡ first_met (row_tests (map (op_at t) (take m rows))) (passed (length (take m rows)))
       → r ≡ first_met (row_tests (history t register)) (passed (length (history t register)))

@@ -1,4 +1,4 @@
-// The screening of a register: tests 1, 2 and 4 to 9 of the table, each over the whole register before the next.
+// The screening of a register: tests 1 to 9 of the table, each over the whole register before the next.
 #![tactic(auto)]
 
 ghost use Rattle.std.specs.Prelude.{◌≡◌, ◌↔◌, ℕ, ◌+◌, ◌*◌, ◌≤◌, List, map, length, take};
@@ -9,29 +9,18 @@ ghost use Rattle.history.specs.Screen.{examined, screening, Screened};
 ghost use Rattle.conditions.specs.Tests.{row_tests, Listed};
 ghost use Rattle.screening.specs.Ready.{Ready, Gathered};
 
-use history::{Answer, Row};
-
-// 1 where the row bears the register, else 0.
-fn borne(table: &[u64], register: u64, row: usize) -> usize
-    requires { row * 5 + 5 ≤ length table.now }
-    ensures { result ≡ one_if (bears table.now register row) }
-{
-    if history::bears(table, register, row) {
-        return 1;
-    }
-    0
-}
+use history::{Answer, Code, Row};
 
 // The count of the register's rows.
 pub fn count(table: &[u64], register: u64) -> usize
     ensures { result ≡ length (history table.now register) }
 {
     let n = table.len() / Row::COLUMNS;
-    let mut i = 0;
-    let mut rows: usize = 0;
-    while i < n {
-        rows += borne(table, register, i);
-        i += 1;
+    let mut rows = 0;
+    for i in 0..n {
+        if history::bears(table, register, i) {
+            rows += 1;
+        }
     }
     rows
 }
@@ -42,11 +31,8 @@ fn gather(table: &[u64], register: u64, rows: &mut [u64]) -> usize
     ensures { (result ≡ length (rows_of table.now register)) × (take result rows.new ≡ rows_of table.now register) }
 {
     let n = table.len() / Row::COLUMNS;
-    let mut m: usize = 0;
-    let mut i: usize = 0;
-    while i < n {
-        let row = i;
-        i += 1;
+    let mut m = 0;
+    for row in 0..n {
         if history::bears(table, register, row) {
             rows[m] = row as u64;
             m += 1;
@@ -64,42 +50,15 @@ fn examine_rows(table: &[u64], rows: &[u64], writer: &mut [u64]) -> Answer
     conditions::test_rows(table, rows, writer)
 }
 
-// So many rows are few: a short array does for them, which is sooner cleared than a long one.
-const FEW: usize = 32;
-
-// Up to so many, an array of a middle size does.
-const SOME: usize = 256;
-
-// Tests 4 to 9 of few rows.
-fn examine_few(table: &[u64], rows: &[u64]) -> Answer
+// Tests 4 to 9 of at most N rows.
+fn listed_sized<const N: usize>(table: &[u64], rows: &[u64]) -> Answer
     requires listed { Listed table.now rows.now }
-    requires rows_len_bound { length rows.now ≤ 32 }
+    requires size { N ≤ largest_count }
+    requires room { length rows.now ≤ N }
     ensures { result ≡ first_met (row_tests (map (op_at table.now) rows.now)) (passed (length rows.now)) }
 {
     let n = rows.len();
-    let mut writer = [0u64; FEW];
-    examine_rows(table, rows, &mut writer[..n])
-}
-
-// The same for up to 256 rows.
-fn examine_some(table: &[u64], rows: &[u64]) -> Answer
-    requires listed { Listed table.now rows.now }
-    requires rows_len_bound { length rows.now ≤ 256 }
-    ensures { result ≡ first_met (row_tests (map (op_at table.now) rows.now)) (passed (length rows.now)) }
-{
-    let n = rows.len();
-    let mut writer = [0u64; SOME];
-    examine_rows(table, rows, &mut writer[..n])
-}
-
-// The same for as many rows as a table has.
-fn examine_many(table: &[u64], rows: &[u64]) -> Answer
-    requires listed { Listed table.now rows.now }
-    requires rows_len_bound { length rows.now ≤ largest_count }
-    ensures { result ≡ first_met (row_tests (map (op_at table.now) rows.now)) (passed (length rows.now)) }
-{
-    let n = rows.len();
-    let mut writer = [0u64; Row::LARGEST_COUNT];
+    let mut writer = [0u64; N];
     examine_rows(table, rows, &mut writer[..n])
 }
 
@@ -109,13 +68,13 @@ pub fn examine_listed(table: &[u64], rows: &[u64]) -> Answer
     ensures { result ≡ first_met (row_tests (map (op_at table.now) rows.now)) (passed (length rows.now)) }
 {
     let n = rows.len();
-    if n <= FEW {
-        return examine_few(table, rows);
+    if n <= Row::FEW {
+        listed_sized::<{ Row::FEW }>(table, rows)
+    } else if n <= Row::SOME {
+        listed_sized::<{ Row::SOME }>(table, rows)
+    } else {
+        listed_sized::<{ Row::LARGEST_COUNT }>(table, rows)
     }
-    if n <= SOME {
-        return examine_some(table, rows);
-    }
-    examine_many(table, rows)
 }
 
 // Tests 4 to 9 of a register, with a place for each row of the table; its rows stand at the front of the slice then.
@@ -137,27 +96,36 @@ pub fn examine_into(table: &[u64], register: u64, unasked: bool, rows: &mut [u64
     ensures gathered { result.code ≡ 0 → Gathered table.now register rows.new }
 {
     if table.len() % Row::COLUMNS != 0 {
-        return Answer::refused(Answer::RAGGED, 0);
+        return Code::Ragged.at(0);
     }
     if Row::LARGEST_COUNT < table.len() / Row::COLUMNS {
-        return Answer::refused(Answer::OVERFULL, 0);
+        return Code::Overfull.at(0);
     }
     if unasked {
-        return Answer::refused(Answer::NO_SUCH_QUESTION, 0);
+        return Code::NoSuchQuestion.at(0);
     }
     examine_gathered(table, register, rows)
+}
+
+// Tests 1 to 9, with places for N rows.
+fn examine_sized<const N: usize>(table: &[u64], register: u64, unasked: bool) -> Answer
+    requires size { N ≤ largest_count }
+    requires room { row_count table.now ≤ largest_count → row_count table.now ≤ N }
+    ensures { result ≡ examined (length table.now) (history table.now register) unasked }
+{
+    let mut rows = [0u64; N];
+    examine_into(table, register, unasked, &mut rows)
 }
 
 // Tests 1 to 9.
 pub fn examine(table: &[u64], register: u64, unasked: bool) -> Answer
     ensures { result ≡ examined (length table.now) (history table.now register) unasked }
 {
-    if table.len() / Row::COLUMNS <= FEW {
-        let mut few = [0u64; FEW];
-        return examine_into(table, register, unasked, &mut few);
+    if table.len() / Row::COLUMNS <= Row::FEW {
+        examine_sized::<{ Row::FEW }>(table, register, unasked)
+    } else {
+        examine_sized::<{ Row::LARGEST_COUNT }>(table, register, unasked)
     }
-    let mut rows = [0u64; Row::LARGEST_COUNT];
-    examine_into(table, register, unasked, &mut rows)
 }
 
 // The screening: code 0 with the count of the register's rows exactly where the register is as the record `Screened` says.

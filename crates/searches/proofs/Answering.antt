@@ -5,19 +5,15 @@ use mathlib.Core.Path.{◌≡◌, refl, sym, ap, ◌∙◌}
 use mathlib.Core.List.{List, [], ◌∷◌, ◌++◌, map}
 use native.Mathlib.Omega.{arith}
 use borrow.Author.Tests.{lt-ltb, le-ltb}
-use lib.ListN.{length, get_or, take, drop, length-map, length-append, length-drop, take-append-drop}
+use lib.ListN.{length, get_or, drop, length-map, length-drop}
 use lib.Seq.{length-take-le}
 use Rattle.history.specs.declared.Op.{Op}
-use Rattle.history.specs.Answer.{fresh, spent, stale}
+use Rattle.history.specs.declared.Code.TheVariants.{Fresh as FreshCode, Spent as SpentCode, Stale as StaleCode}
 use Rattle.methods.specs.Mark.{Result, row_numbers, written, answered, marked, judged}
 use Rattle.positions.specs.Columns.{Cols, nothing, ops, Of}
 use Rattle.placing.specs.declared.Search.TheVariants.{Stale, Fresh, Spent}
 use Rattle.placing.specs.Searched.{between, Searched, is_stale, is_fresh, is_spent}
 use Rattle.searches.specs.Replies.{outcome}
-
--- a front that has its whole length is within the list
-pub front_in : (n : ℕ) (l : List ℕ) → n ≡ length (take n l) → n ≤ length l
-front_in n l e = omega (arith, e, ap length (take-append-drop n l), length-append (take n l) (drop n l))
 
 -- the positions at some places are as many as these
 pub between_long : {from to : ℕ} (places : List ℕ) → from ≤ to → to ≤ length places → length (between places from to) ≡ to - from
@@ -38,20 +34,20 @@ order_rows H (j ∷ l) =
 
 module _ {C : Cols} {allowance : ℕ} {m : List Op → Result} {H : List Op} (o : Of C H) (list : List ℕ) (rows : ℕ) (places : List ℕ) where
   -- no order
-  pub judged_stale : (t : ℕ) → Searched C allowance m places (Stale t) → outcome (answered stale rows t) list ≡ judged rows allowance list (m H)
+  pub judged_stale : (t : ℕ) → Searched C allowance m places (Stale t) → outcome (answered StaleCode rows t) list ≡ judged rows allowance list (m H)
   unfolding judged marked
   judged_stale t (is_stale l s) = rw (s H o, le-ltb allowance t l) refl
 
   -- more trials than are allowed
-  pub judged_spent : Searched C allowance m places Spent → outcome (answered spent 0 allowance) list ≡ judged rows allowance list (m H)
+  pub judged_spent : Searched C allowance m places Spent → outcome (answered SpentCode 0 allowance) list ≡ judged rows allowance list (m H)
   unfolding judged
   judged_spent (is_spent s) = rw (lt-ltb allowance (m H).trials (s H o)) refl
 
   -- an order, whose rows are at the front of the list
   pub judged_fresh : (from to t : ℕ) → Searched C allowance m places (Fresh from to t) → (numbers xs : List ℕ) → numbers ≡ row_numbers H →
-      xs ≡ map (λ j. get_or numbers j 0) (between places from to) → outcome (answered fresh rows t) (xs ++ drop (to - from) list) ≡ judged rows allowance list (m H)
+      xs ≡ map (λ j. get_or numbers j 0) (between places from to) → outcome (answered FreshCode rows t) (xs ++ drop (to - from) list) ≡ judged rows allowance list (m H)
   unfolding judged marked
-  judged_fresh from to t (is_fresh l a b s) numbers xs n d = rw (s H o, le-ltb allowance t l) (ap (λ (k : List ℕ). outcome (answered fresh rows t) k) whole)
+  judged_fresh from to t (is_fresh l a b s) numbers xs n d = rw (s H o, le-ltb allowance t l) (ap (λ (k : List ℕ). outcome (answered FreshCode rows t) k) whole)
     where
       are : xs ≡ row_numbers (ops H (between places from to))
       are = d ∙ ap (λ (k : List ℕ). map (λ j. get_or k j 0) (between places from to)) n ∙ order_rows H (between places from to)
@@ -61,12 +57,3 @@ module _ {C : Cols} {allowance : ℕ} {m : List Op → Result} {H : List Op} (o 
 
       whole : xs ++ drop (to - from) list ≡ written (row_numbers (ops H (between places from to))) list
       whole = ap (λ (k : List ℕ). k ++ drop (to - from) list) are ∙ ap (λ (k : ℕ). row_numbers (ops H (between places from to)) ++ drop k list) long
-
--- the list has the places that are lent for the rows
-pub places_long : (n : ℕ) (list : List ℕ) → n ≤ length list → n ≡ length (take n list)
-places_long n list f = sym (length-take-le n list f)
-
--- these are as many as the positions
-pub same_places : {from to : ℕ} (places list : List ℕ) → (from ≤ to) × (to ≤ length places) × (to - from ≤ length list) →
-    length (take (to - from) list) ≡ length (between places from to)
-same_places {from} {to} places list f = sym (places_long (to - from) list f.2) ∙ sym (between_long places f.0 f.1)

@@ -1,11 +1,11 @@
 -- The pass over the records: the head of a record as one number, and what one record more does to the places that are kept.
 -- Assumes nothing.
-use Prim.Native.Nat.{ℕ, ◌+◌, ◌*◌, ◌-◌, ◌/◌, ◌^◌, ◌≤◌, ◌<◌}
+use Prim.Native.Nat.{ℕ, ◌+◌, ◌*◌, ◌^◌, ◌≤◌, ◌<◌}
 use mathlib.Core.Path.{◌≡◌, refl, sym, ap, ◌∙◌}
 use mathlib.Core.Logic.{◌⊎◌, inl, inr, ◌≢◌}
 use mathlib.Core.Bool.{Bool, true, false, cond, not, ◌&&◌, ◌||◌}
 use mathlib.Core.List.{List, [], ◌∷◌, ◌++◌, map, append-nil}
-use native.Mathlib.Nat.{add-zero, eq-or-lt_of_le}
+use native.Mathlib.Nat.{eq-or-lt_of_le}
 use native.Mathlib.Numerals.{add-one}
 use native.Mathlib.Omega.{arith}
 use borrow.Author.Tests.{not-false, eqb-true, eqb-false, eq-eqb, leb-true, leb-false, lt-leb}
@@ -23,7 +23,7 @@ use Rattle.records.specs.Records.{field, body_length, next, begun, offset, recor
 use Rattle.records.proofs.Offsets.{walked_none, walked_in, walked_here, walked_more, walked_end}
 use Rattle.records.proofs.Records.{least_length}
 use Rattle.files.specs.Files.{Whole, left, mismatched}
-use Rattle.selection.specs.Selected.{is_sound, head_at, plain, extent_at, step_at, extent_by, is_of, records_of, Picks, is_picked, Picking}
+use Rattle.selection.specs.Selected.{is_sound, head_at, plain, extent_at, step_at, extent_by, is_of, records_of, Picked, Picking}
 
 -- The lengths and kinds that go together.
 abbrev Goes : ℕ → ℕ → Type 0
@@ -288,16 +288,19 @@ module _ (bs : List ℕ) (register : ℕ) where
                   ∙ sym (keep_more ∙ rw (of_here true q, here));
             }
 
-    pub pick_end : length bs ≤ at → Picks bs register picks (record { count = m; sound = true })
+    pub pick_end : length bs ≤ at → Picked bs register picks m
     unfolding records_of
     pick_end h =
-        is_picked refl
-        (record {
-          few = omega (arith, all, g.most);
-          stands = λ j l. sound_stands bs (offset bs j) (g.sound j (omega (arith, all)));
-          kinds = λ j l. sound_kind bs (offset bs j) (g.sound j (omega (arith, all))) j;
-        })
-        (sym (length-take-le m picks (omega (arith, g.long, g.few, g.most))) ∙ ap length whole ∙ length-map (keep (is_of bs register) (up_to (begun bs))) (offset bs)) whole
+        record {
+          whole =
+              record {
+                few = omega (arith, all, g.most);
+                stands = λ j l. sound_stands bs (offset bs j) (g.sound j (omega (arith, all)));
+                kinds = λ j l. sound_kind bs (offset bs j) (g.sound j (omega (arith, all))) j;
+              };
+          count = sym (length-take-le m picks (omega (arith, g.long, g.few, g.most))) ∙ ap length whole ∙ length-map (keep (is_of bs register) (up_to (begun bs))) (offset bs);
+          front = whole;
+        }
       where
         all : i ≡ begun bs
         all = walked_end bs i at g.walked h
@@ -305,57 +308,7 @@ module _ (bs : List ℕ) (register : ℕ) where
         whole : take m picks ≡ map (offset bs) (keep (is_of bs register) (up_to (begun bs)))
         whole = g.front ∙ ap places all
 
--- The loop along records with stamps: k of at most n of them, for which there is room.
-module _ (bs : List ℕ) (register row start n : ℕ) where
-  pub record Plain (k at m : ℕ) (picks : List ℕ) : Type 0 where
-    pub within : k ≤ n
-    pub rows : row + n ≤ 1024
-    pub room : start + n * 36 ≤ length bs
-    pub ahead : at ≡ start + k * 36
-    pub picking : Picking bs register (row + k) at m picks
-
-  pub plain_none : (m : ℕ) (picks : List ℕ) → Picking bs register row start m picks → (n ≤ (length bs - start) / 36) × (n ≤ 1024 - row) → Plain 0 start m picks
-  plain_none m picks g few =
-      record { within = omega arith; rows = omega (arith, few.1, g.most); room = omega (arith, few.0, g.inside); ahead = omega arith; picking = rw (add-zero row) g }
-
-  module _ (k at m : ℕ) (picks : List ℕ) (g : Plain k at m picks) where
-    pub plain_reached : Picking bs register (row + k) at m picks × (start ≤ at)
-    plain_reached = (g.picking, omega (arith, g.ahead))
-
-    module _ (h : k < n) where
-      pub plain_there : at + 36 ≤ length bs
-      plain_there = omega (arith, g.ahead, g.room)
-
-      pub plain_few : row + k < 1024
-      plain_few = omega (arith, g.rows)
-
-      module _ (small : field bs (at + 2) 2 < 256 ^ 2) (p : plain (head_at bs at) ≡ true) where
-        extent_is : 36 ≡ extent_at bs at
-        extent_is = plain_extent bs at small p plain_there
-
-        step : 36 ≡ step_at bs (row + k) at
-        unfolding step_at
-        step = rw (lt-leb 1024 (row + k) plain_few) extent_is
-
-        next_row : row + (k + 1) ≡ row + k + 1
-        next_row = omega arith
-
-        pub plain_out : eqb (record_from bs at).register register ≡ false → Plain (k + 1) (at + 36) m picks
-        plain_out q =
-            record {
-              within = omega arith;
-              rows = g.rows;
-              room = g.room;
-              ahead = omega (arith, g.ahead);
-              picking = rw next_row (pick_out bs register (row + k) at m picks g.picking (omega (arith, plain_there)) 36 step (λ e. omega arith) q);
-            }
-
-        pub plain_in : eqb (record_from bs at).register register ≡ true → Plain (k + 1) (at + 36) (m + 1) (set picks m at)
-        plain_in q =
-            record {
-              within = omega arith;
-              rows = g.rows;
-              room = g.room;
-              ahead = omega (arith, g.ahead);
-              picking = rw next_row (pick_in bs register (row + k) at m picks g.picking (omega (arith, plain_there)) 36 step (λ e. omega arith) q);
-            }
+-- and the pass goes past it
+pub plain_step : (bs : List ℕ) (i at : ℕ) → i < 1024 → field bs (at + 2) 2 < 256 ^ 2 → plain (head_at bs at) ≡ true → at + 36 ≤ length bs → 36 ≡ step_at bs i at
+unfolding step_at
+plain_step bs i at few small p h = rw (lt-leb 1024 i few) (plain_extent bs at small p h)

@@ -1,30 +1,26 @@
 -- What finding and reading a register's rows alone answer and leave, from what the pass over the records finds.
 -- Assumes nothing.
-use Prim.Native.Nat.{ℕ, ◌+◌, ◌*◌, ◌≤◌, ◌<◌}
+use Prim.Native.Nat.{ℕ, ◌*◌, ◌≤◌, ◌<◌}
 use mathlib.Core.Path.{◌≡◌, refl, sym, ap, ◌∙◌}
 use mathlib.Core.Logic.{◌≢◌}
-use mathlib.Core.Bool.{true, false}
 use mathlib.Core.List.{List, [], ◌∷◌, ◌++◌, Memᴰ as In}
 use native.Mathlib.Omega.{arith}
 use borrow.Author.Tests.{ltb-false}
 use lib.ListN.{length, length-map, get_or, take, drop}
 use Rattle.lists.specs.Lists.{up_to}
-use Rattle.lists.proofs.Tests.{both}
 use Rattle.lists.proofs.Members.{in_keep}
 use Rattle.lists.proofs.Images.{get_d_map, get_d_in}
 use Rattle.lists.proofs.Counts.{keep_length}
 use Rattle.lists.proofs.Ranges.{in_below, from_length}
 use Rattle.history.specs.declared.Answer.{Answer}
 use Rattle.history.specs.Answer.{Test, first_met, passed}
-use Rattle.history.proofs.Refusals.{met_append, no_fault_answer, code_no_fault, if_so_lem}
+use Rattle.history.proofs.Refusals.{met_append, no_fault_answer, code_no_fault, if_so_lem, met_kept}
 use Rattle.records.specs.Records.{begun, offset, record_from, cells, Stands}
 use Rattle.records.proofs.Blocks.{flat_map_lem}
 use Rattle.files.specs.Files.{Whole, file_tests, file_answer, room_test}
-use Rattle.files.proofs.Meeting.{met_kept}
 use Rattle.files.proofs.Passing.{whole_file, code_whole}
 use Rattle.files.proofs.Calls.{after_refused, after_fresh, code_of}
-use Rattle.selection.specs.declared.Picked.{Picked}
-use Rattle.selection.specs.Selected.{is_of, records_of, register_table, find_answer, Placed, rows_at, copied, select_tests, select_answer, select_table, Picks, is_picked, is_refused}
+use Rattle.selection.specs.Selected.{is_of, records_of, register_table, find_answer, Placed, rows_at, copied, select_tests, select_answer, select_table, Picked}
 
 -- what the places of a register's records are
 module _ (bs : List ℕ) (register : ℕ) (places : List ℕ) (p : Placed bs register places) where
@@ -64,23 +60,14 @@ module _ (bs : List ℕ) (register : ℕ) where
   unfolding find_answer
   find_sound w = no_fault_answer (file_tests bs) (passed rows) (whole_file bs w)
 
-  module _ (picks : List ℕ) (r : Picked) (p : Picks bs register picks r) where
-    pub find_not : r.sound ≡ false → (a : Answer) → a ≡ file_answer bs → Find a picks
-    find_not e a q = go p
-      where
-        go : Picks bs register picks r → Find a picks
-        go (is_picked s w c f) = absurd (both s e)
-        go (is_refused s n) =
-            let code : (file_answer bs).code ≢ 0 = λ z. n (code_whole bs z) in
-            (q ∙ sym (find_refused code), λ z. absurd (code (code_of (sym q) z)))
+  pub find_not : (picks : List ℕ) → (Whole bs → ⊥) → (a : Answer) → a ≡ file_answer bs → Find a picks
+  find_not picks n a q =
+      let code : (file_answer bs).code ≢ 0 = λ z. n (code_whole bs z) in
+      (q ∙ sym (find_refused code), λ z. absurd (code (code_of (sym q) z)))
 
-    pub find_all : r.sound ≡ true → (a : Answer) → a ≡ passed r.count → Find a picks
-    find_all e a q = go p
-      where
-        go : Picks bs register picks r → Find a picks
-        go (is_picked s w c f) =
-            (q ∙ ap passed c ∙ sym (find_sound w), λ z. record { whole = w; each = ap (λ (x : Answer). take x.rows picks) q ∙ f })
-        go (is_refused s n) = absurd (both e s)
+  pub find_all : (picks : List ℕ) (m : ℕ) → Picked bs register picks m → (a : Answer) → a ≡ passed m → Find a picks
+  find_all picks m p a q =
+      (q ∙ ap passed p.count ∙ sym (find_sound p.whole), λ z. record { whole = p.whole; each = ap (λ (x : Answer). take x.rows picks) q ∙ p.front })
 
   -- what a caller knows by the answer's code
   module _ (a : Answer) (e : a ≡ find_answer bs register) where

@@ -1,6 +1,6 @@
 -- The rows of one register of a history file (document 01, "Files, program, C host"): which they are, and what reading these alone answers and leaves.
 -- Assumes nothing.
-use Rattle.std.specs.Prelude.{ℕ, ◌*◌, ◌+◌, ◌≤◌, ◌<◌, ◌≡◌, Bool, true, false, cond, not, ◌&&◌, ◌||◌, leb, eqb, length, take, drop}
+use Rattle.std.specs.Prelude.{ℕ, ◌*◌, ◌+◌, ◌≤◌, ◌<◌, ◌≡◌, ◌≢◌, Bool, true, cond, not, ◌&&◌, ◌||◌, leb, eqb, length, take, drop, Option, MatchOption}
 use mathlib.Core.List.{List, [], ◌∷◌, ◌++◌, map, flat_map}
 use Rattle.lists.specs.Lists.{keep, up_to}
 use Rattle.history.specs.declared.Answer.{Answer}
@@ -8,7 +8,6 @@ use Rattle.history.specs.Table.{largest_count, operation}
 use Rattle.history.specs.Answer.{Test, first_met, passed}
 use Rattle.records.specs.Records.{field, begun, offset, Walked, record_from, record_at, cells}
 use Rattle.files.specs.Files.{Whole, left, mismatched, file_tests, room_test, after}
-use Rattle.selection.specs.declared.Picked.{Picked}
 
 -- the record at an offset has a kind that goes with its length, and is all there (01, "Reading tests at each record, in sequence"; 02, W-207)
 unfoldable pub is_sound : List ℕ → ℕ → Bool
@@ -31,6 +30,10 @@ plain head = eqb head 2228225 || eqb head 2228226
 
 unfoldable pub extent_by : ℕ → ℕ
 extent_by head = cond (plain head) 36 (cond (eqb head 1179651) 20 0)
+
+-- the bytes as the code says them: none where they are 0
+abbrev pub Extent : ℕ → Option ℕ → Type 0
+Extent n r = MatchOption r (n ≡ 0) (λ size. (size ≡ n) × (size ≢ 0))
 
 -- record n bears the register
 unfoldable pub is_of : List ℕ → ℕ → ℕ → Bool
@@ -69,10 +72,15 @@ select_answer bs register table = first_met (select_tests bs register (length ta
 unfoldable pub select_table : List ℕ → ℕ → List ℕ → List ℕ
 select_table bs register table = after (select_answer bs register table) (register_table bs register) table
 
--- what one pass over the records finds: the file is sound, and the offsets of the register's records stand at the front; or it is refused
-pub data Picks (bs : List ℕ) (register : ℕ) (picks : List ℕ) (r : Picked) : Type 0 where
-  is_picked : r.sound ≡ true → Whole bs → r.count ≡ length (records_of bs register) → take r.count picks ≡ map (offset bs) (records_of bs register) → Picks bs register picks r
-  is_refused : r.sound ≡ false → (Whole bs → ⊥) → Picks bs register picks r
+-- the file is sound, and the offsets of the register's m records stand at the front
+pub record Picked (bs : List ℕ) (register : ℕ) (picks : List ℕ) (m : ℕ) : Type 0 where
+  pub whole : Whole bs
+  pub count : m ≡ length (records_of bs register)
+  pub front : take m picks ≡ map (offset bs) (records_of bs register)
+
+-- what one pass over the records finds: that, or a file that is refused
+abbrev pub Picks : List ℕ → ℕ → List ℕ → Option ℕ → Type 0
+Picks bs register picks r = MatchOption r (Whole bs → ⊥) (Picked bs register picks)
 
 -- along the way: the first i records are sound, the next one is at an offset, and the places of m of them, which bear the register, are kept
 pub record Picking (bs : List ℕ) (register i at m : ℕ) (picks : List ℕ) : Type 0 where

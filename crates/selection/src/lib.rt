@@ -1,10 +1,10 @@
 // One register of a history file: a pass over the bytes that keeps the places of its records, so that no other row is read into the table.
 #![tactic(auto)]
 
-ghost use Rattle.std.specs.Prelude.{◌≡◌, ℕ, ◌+◌, ◌*◌, ◌≤◌, ◌<◌, eqb, length, get_or, take};
+ghost use Rattle.std.specs.Prelude.{◌≡◌, ◌≢◌, ℕ, ◌+◌, ◌*◌, ◌≤◌, ◌<◌, eqb, length, get_or, take};
 ghost use Rattle.history.specs.Table.{largest_count};
 ghost use Rattle.records.specs.Records.{record_from, Stands};
-ghost use Rattle.selection.specs.Selected.{head_at, plain, extent_at, step_at, extent_by, Picking, Picks, find_answer, Placed, copied, select_answer, select_table};
+ghost use Rattle.selection.specs.Selected.{head_at, plain, extent_at, step_at, extent_by, Extent, Picking, Picks, find_answer, Placed, copied, select_answer, select_table};
 
 use history::{Answer, Row};
 
@@ -27,48 +27,42 @@ fn head(bytes: &[u8], at: usize) -> u64
 fn is_plain(head: u64) -> bool
     ensures { result ≡ plain head }
 {
-    if head == WRITE_HEAD {
-        return true;
-    }
-    head == READ_HEAD
+    head == WRITE_HEAD || head == READ_HEAD
 }
 
-// The bytes of a record with such a number, and 0 where no sound record has it.
-fn extent_by(head: u64) -> usize
-    ensures { result ≡ extent_by head }
+// The bytes of a record with such a number, which no other sound record has.
+fn extent_by(head: u64) -> Option<usize>
+    ensures { Extent (extent_by head) result }
 {
     if is_plain(head) {
-        return records::RECORD;
+        Some(records::RECORD)
+    } else if head == OPENING_HEAD {
+        Some(records::SHORT_RECORD)
+    } else {
+        None
     }
-    if head == OPENING_HEAD {
-        return records::SHORT_RECORD;
-    }
-    0
 }
 
-// The bytes of the record at a place where it is sound and all there, else 0.
-fn extent(bytes: &[u8], at: usize) -> usize
+// The bytes of the record at a place, where it is sound and all there.
+fn extent(bytes: &[u8], at: usize) -> Option<usize>
     requires { at < length bytes.now }
-    ensures { result ≡ extent_at bytes.now at }
+    ensures { Extent (extent_at bytes.now at) result }
 {
     let left = bytes.len() - at;
     if left < records::SHORT_RECORD {
-        return 0;
+        return None;
     }
-    let size = extent_by(head(bytes, at));
-    if left < size {
-        return 0;
-    }
-    size
+    let size = extent_by(head(bytes, at))?;
+    if size <= left { Some(size) } else { None }
 }
 
-// The same of record `row`, and 0 of a 1,025th.
-fn step(bytes: &[u8], row: usize, at: usize) -> usize
+// The same of record `row`, and none of a 1,025th.
+fn step(bytes: &[u8], row: usize, at: usize) -> Option<usize>
     requires { at < length bytes.now }
-    ensures { result ≡ step_at bytes.now row at }
+    ensures { Extent (step_at bytes.now row at) result }
 {
     if Row::LARGEST_COUNT <= row {
-        return 0;
+        return None;
     }
     extent(bytes, at)
 }
@@ -81,15 +75,6 @@ fn bears(bytes: &[u8], register: u64, at: usize) -> bool
     records::eight(bytes, at + 4) == register
 }
 
-fn smaller(a: usize, b: usize) -> usize
-    ensures { (result ≤ a) × (result ≤ b) }
-{
-    if a < b {
-        return a;
-    }
-    b
-}
-
 // How far a pass is: the next record's number and place, and how many places are kept.
 #[derive(Clone, Copy)]
 struct Reached {
@@ -98,91 +83,64 @@ struct Reached {
     count: usize,
 }
 
+impl Reached {
+    // Goes past the next record, of so many bytes; its place is kept where it bears the register.
+    fn past(self, bytes: &[u8], register: u64, picks: &mut [u16], size: usize) -> Reached
+        requires picking { Picking bytes.now register self.row self.at self.count picks.old }
+        requires inside { self.at < length bytes.now }
+        requires sound { size ≡ step_at bytes.now self.row self.at }
+        requires some { size ≢ 0 }
+        ensures row { result.row ≡ self.row + 1 }
+        ensures at { result.at ≡ self.at + size }
+        ensures picking { Picking bytes.now register result.row result.at result.count picks.new }
+    {
+        let mut count = self.count;
+        if bears(bytes, register, self.at) {
+            picks[count] = self.at as u16;
+            count += 1;
+        }
+        Reached {
+            row: self.row + 1,
+            at: self.at + size,
+            count,
+        }
+    }
+}
+
 // Goes along the records with stamps up to one of another kind: most records have stamps, and this loop looks at little else.
-fn pick_plain(
-    bytes: &[u8],
-    register: u64,
-    picks: &mut [u16],
-    row: usize,
-    from: usize,
-    kept: usize,
-) -> Reached
-    requires { Picking bytes.now register row from kept picks.old }
-    ensures { Picking bytes.now register result.row result.at result.count picks.new × (from ≤ result.at) }
+fn pick_plain(bytes: &[u8], register: u64, picks: &mut [u16], from: Reached) -> Reached
+    requires { Picking bytes.now register from.row from.at from.count picks.old }
+    ensures { Picking bytes.now register result.row result.at result.count picks.new × (from.at ≤ result.at) }
 {
-    let n = smaller(
-        (bytes.len() - from) / records::RECORD,
-        Row::LARGEST_COUNT - row,
-    );
-    let mut m: usize = kept;
-    let mut at: usize = from;
-    let mut k: usize = 0;
-    while k < n {
-        let here = at;
-        if !is_plain(head(bytes, here)) {
-            return Reached {
-                row: row + k,
-                at: here,
-                count: m,
-            };
-        }
-        at += records::RECORD;
-        k += 1;
-        if bears(bytes, register, here) {
-            picks[m] = here as u16;
-            m += 1;
-        }
+    let room = (bytes.len() - from.at) / records::RECORD;
+    let end = from.row + room.min(Row::LARGEST_COUNT - from.row);
+    let mut pass = from;
+    // A record of another kind ends the run.
+    while pass.row < end && is_plain(head(bytes, pass.at)) {
+        pass = pass.past(bytes, register, picks, records::RECORD);
     }
-    Reached {
-        row: row + k,
-        at: at,
-        count: m,
-    }
+    pass
 }
 
-// How many records bear the register, where the file is sound.
-#[derive(Clone, Copy)]
-struct Picked {
-    count: usize,
-    sound: bool,
-}
-
-// The places of the register's records, at the front of the slice.
-fn pick(bytes: &[u8], register: u64, picks: &mut [u16]) -> Picked
+// The places of the register's records, at the front of the slice, and how many they are; or the file is not sound.
+fn pick(bytes: &[u8], register: u64, picks: &mut [u16]) -> Option<usize>
     requires { length picks.old ≡ largest_count }
     ensures { Picks bytes.now register picks.new result }
 {
-    let mut m: usize = 0;
-    let mut i: usize = 0;
-    let mut at: usize = 0;
-    while at < bytes.len() {
-        let reached = pick_plain(bytes, register, picks, i, at, m);
-        let here = reached.at;
-        m = reached.count;
-        if bytes.len() <= here {
-            return Picked {
-                count: m,
-                sound: true,
-            };
-        }
-        let size = step(bytes, reached.row, here);
-        if size == 0 {
-            return Picked {
-                count: 0,
-                sound: false,
-            };
-        }
-        at = here + size;
-        i = reached.row + 1;
-        if bears(bytes, register, here) {
-            picks[m] = here as u16;
-            m += 1;
+    let mut pass = Reached {
+        row: 0,
+        at: 0,
+        count: 0,
+    };
+    // The next record begins where the length of this one says.
+    while pass.at < bytes.len() {
+        pass = pick_plain(bytes, register, picks, pass);
+        if pass.at < bytes.len() {
+            let size = step(bytes, pass.row, pass.at)?;
+            pass = pass.past(bytes, register, picks, size);
         }
     }
-    Picked {
-        count: m,
-        sound: true,
-    }
+    Some(pass.count)
 }
 
 // The count of the register's rows, and their records' places at the front of the slice; or the first refusal of the whole file. Only a pass
@@ -192,11 +150,10 @@ pub fn find(bytes: &[u8], register: u64, picks: &mut [u16]) -> Answer
     ensures answer { result ≡ find_answer bytes.now register }
     ensures places { result.code ≡ 0 → Placed bytes.now register (take result.rows picks.new) }
 {
-    let found = pick(bytes, register, picks);
-    if !found.sound {
-        return files::inspect(bytes);
+    match pick(bytes, register, picks) {
+        Some(count) => Answer::passed(count as u64),
+        None => files::inspect(bytes),
     }
-    Answer::passed(found.count as u64)
 }
 
 // Puts the rows of the records at some places at the front of the table.
@@ -205,10 +162,8 @@ pub fn copy(bytes: &[u8], picks: &[u16], table: &mut [u64])
     requires room { length picks.now * 5 ≤ length table.old }
     ensures { table.new ≡ copied bytes.now picks.now table.old }
 {
-    let mut i: usize = 0;
-    while i < picks.len() {
-        records::read_row(bytes, picks[i] as usize, table, i);
-        i += 1;
+    for (i, at) in picks.iter().enumerate() {
+        records::read_row(bytes, *at as usize, table, i);
     }
 }
 
@@ -218,12 +173,12 @@ pub fn read(bytes: &[u8], register: u64, table: &mut [u64]) -> Answer
 {
     let mut picks = [0u16; Row::LARGEST_COUNT];
     let found = find(bytes, register, &mut picks);
-    if found.code != Answer::FRESH {
+    if found.code != 0 {
         return found;
     }
     let m = found.rows as usize;
     let answer = files::room_for(m, m * Row::COLUMNS, table.len());
-    if answer.code != Answer::FRESH {
+    if answer.code != 0 {
         return answer;
     }
     copy(bytes, &picks[..m], table);

@@ -2,13 +2,15 @@
 #![tactic(auto)]
 
 ghost use Rattle.std.specs.Prelude.{◌≡◌, length, replicate};
+ghost use Rattle.marker.specs.Questions.{number};
 ghost use Rattle.marks.specs.Marks.{most_trials};
 ghost use Rattle.printing.specs.Texts.{Printed};
 ghost use Rattle.lines.specs.Lines.{Put, places};
 ghost use Rattle.sheet.specs.Sheet.{outcome_to, sheet_of, Shown, exam_of, Told};
 ghost use Rattle.sheet.specs.Pages.{room, Page};
 
-use history::{Answer, Row};
+use history::Answer;
+use marker::Question;
 
 // A question and the list of 1,024 places behind it.
 const PLACES: usize = 1025;
@@ -17,10 +19,11 @@ const PLACES: usize = 1025;
 const ROOM: usize = 65536;
 
 // Marks the register by a question: the page holds the question's number and, behind it, the list.
-fn ask(table: &[u64], register: u64, question: u64, allowance: u64, page: &mut [u64]) -> Answer
+fn ask(table: &[u64], register: u64, question: Question, allowance: u64, page: &mut [u64]) -> Answer
     requires { page.old ≡ replicate places 0 }
-    ensures { Page question (outcome_to table.now register question allowance) result page.new }
+    ensures { Page (number question) (outcome_to table.now register (number question) allowance) result page.new }
 {
+    let question = question as u64;
     page[0] = question;
     marker::mark(table, register, question, allowance, &mut page[1..])
 }
@@ -33,9 +36,9 @@ fn put_sheet(table: &[u64], register: u64, allowance: u64, out: &mut [u8]) -> us
     let mut one = [0u64; PLACES];
     let mut two = [0u64; PLACES];
     let mut three = [0u64; PLACES];
-    let zones = ask(table, register, 1, allowance, &mut one);
-    let lbt = ask(table, register, 2, allowance, &mut two);
-    let fzf = ask(table, register, 3, allowance, &mut three);
+    let zones = ask(table, register, Question::Zones, allowance, &mut one);
+    let lbt = ask(table, register, Question::Lbt, allowance, &mut two);
+    let fzf = ask(table, register, Question::Fzf, allowance, &mut three);
     let headed = text::put_bytes(b"question,code,row,rows,trials\n", out, 0);
     let answered = lines::put_answers(zones, lbt, fzf, out, headed);
     let first = lines::put_order(zones, &one, out, answered);

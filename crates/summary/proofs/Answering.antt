@@ -9,7 +9,8 @@ use lib.ListN.{length}
 use borrow.Author.Tests.{eq-eqb, ne_eqb, lt-ltb, le-ltb}
 use Rattle.history.specs.declared.Answer.{Answer}
 use Rattle.history.specs.Table.{largest_count, row_count}
-use Rattle.history.specs.Answer.{ragged, overfull, short_list, refused, first_met, passed}
+use Rattle.history.specs.Answer.{refused, first_met, passed}
+use Rattle.history.specs.declared.Code.TheVariants.{Ragged, Overfull, ShortList}
 use Rattle.methods.specs.Mark.{written}
 use Rattle.grouping.specs.Registers.{registers}
 use Rattle.lists.proofs.Entries.{flat_long}
@@ -25,12 +26,12 @@ module _ (t list : List ℕ) where
   abbrev Left : Answer → List ℕ → Type 0
   Left a after = (a ≡ summary_answer t list) × (after ≡ summary_list t list)
 
-  pub left_ragged : (a : Answer) → length t % 5 ≢ 0 → a ≡ refused ragged 0 → Left a list
+  pub left_ragged : (a : Answer) → length t % 5 ≢ 0 → a ≡ refused Ragged 0 → Left a list
   unfolding summary_answer summary_list summary_tests first_met
   left_ragged a h e = (e ∙ sym (rw (ne_eqb (length t % 5) 0 h) refl), sym (rw (ne_eqb (length t % 5) 0 h) refl))
 
   module _ (h : length t % 5 ≡ 0) where
-    pub left_overfull : (a : Answer) → largest_count < row_count t → a ≡ refused overfull 0 → Left a list
+    pub left_overfull : (a : Answer) → largest_count < row_count t → a ≡ refused Overfull 0 → Left a list
     unfolding summary_answer summary_list summary_tests first_met
     left_overfull a l e =
         let p = eq-eqb (length t % 5) 0 h in
@@ -38,7 +39,7 @@ module _ (t list : List ℕ) where
         (e ∙ sym (rw (p, q) refl), sym (rw (p, q) refl))
 
     module _ (few : row_count t ≤ largest_count) (m : ℕ) (count : m ≡ length (registers t)) where
-      pub left_short : (a : Answer) → length list < m * 5 → a ≡ refused short_list 0 → Left a list
+      pub left_short : (a : Answer) → length list < m * 5 → a ≡ refused ShortList 0 → Left a list
       unfolding summary_answer summary_list summary_tests first_met
       left_short a l e =
           let p = eq-eqb (length t % 5) 0 h in

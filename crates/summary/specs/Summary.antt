@@ -4,7 +4,8 @@ use Rattle.std.specs.Prelude.{ℕ, ◌+◌, ◌*◌, ◌%◌, ◌≡◌, cond, n
 use mathlib.Core.List.{List, [], ◌∷◌, flat_map}
 use Rattle.history.specs.declared.Answer.{Answer}
 use Rattle.history.specs.Table.{history, largest_count, row_count}
-use Rattle.history.specs.Answer.{number, fresh, ragged, overfull, short_list, Test, test, if_so, first_met, passed}
+use Rattle.history.specs.Answer.{number, Test, test, if_so, first_met, passed}
+use Rattle.history.specs.declared.Code.TheVariants.{Fresh, Ragged, Overfull, ShortList}
 use Rattle.methods.specs.Mark.{written}
 use Rattle.marks.specs.Marks.{answer_to, Said}
 use Rattle.grouping.specs.Registers.{registers}
@@ -22,9 +23,9 @@ summary_of t = flat_map (entry t) (registers t)
 -- tests 1 and 2, and then 10 where the list has no room for five numbers a register (01's table)
 unfoldable pub summary_tests : List ℕ → ℕ → List Test
 summary_tests t room =
-    test ragged (if_so (not (eqb (length t % 5) 0)))
-    ∷ test overfull (if_so (ltb largest_count (row_count t)))
-    ∷ test short_list (if_so (ltb room (length (summary_of t))))
+    test Ragged (if_so (not (eqb (length t % 5) 0)))
+    ∷ test Overfull (if_so (ltb largest_count (row_count t)))
+    ∷ test ShortList (if_so (ltb room (length (summary_of t))))
     ∷ []
 
 -- the answer, whose rows field is the count of registers, and the list after the call; a refusal leaves it as it was
@@ -32,7 +33,7 @@ unfoldable pub summary_answer : List ℕ → List ℕ → Answer
 summary_answer t list = first_met (summary_tests t (length list)) (passed (length (registers t)))
 
 unfoldable pub summary_list : List ℕ → List ℕ → List ℕ
-summary_list t list = cond (eqb (summary_answer t list).code (number fresh)) (written (summary_of t) list) list
+summary_list t list = cond (eqb (summary_answer t list).code (number Fresh)) (written (summary_of t) list) list
 
 abbrev pub Summed : List ℕ → List ℕ → Answer → List ℕ → Type 0
 Summed t list a after = (a ≡ summary_answer t list) × (after ≡ summary_list t list)

@@ -4,17 +4,13 @@
 ghost use Rattle.std.specs.Prelude.{◌≡◌, ℕ, ◌+◌, ◌*◌, ◌≤◌, ◌<◌, length};
 ghost use mathlib.Core.List.{[], ◌∷◌, flat_map};
 ghost use Rattle.std.proofs.lemmas.List.Edits.{sets};
-ghost use Rattle.history.specs.Table.{largest_count, row_count};
 ghost use Rattle.methods.specs.Mark.{written};
-ghost use Rattle.grouping.specs.Grouped.{by_register};
-ghost use Rattle.roads.specs.Examined.{Sound, RowsOf};
+ghost use Rattle.roads.specs.Examined.{Sound};
 ghost use Rattle.summary.specs.Summary.{entry, Summed, Tells};
 
-use history::{Answer, Row};
-
-const ZONES: u64 = 1;
-
-const FZF: u64 = 3;
+use history::{Answer, Code, Row};
+use marker::Question;
+use roads::{Road, Room};
 
 // The numbers of an entry.
 pub const ENTRY: usize = 5;
@@ -31,110 +27,52 @@ fn put(register: u64, count: u64, one: Answer, two: Answer, list: &mut [u64], at
     list[at + 4] = two.row;
 }
 
-// The same from the register's rows. It is screened once for both questions.
-fn put_entry(
-    table: &[u64],
-    register: u64,
-    keys: &mut [u64],
-    rows: &mut [u64],
-    order: &mut [u64],
-    list: &mut [u64],
-    at: usize,
-)
-    requires sound { Sound table.now }
-    requires rows_of { RowsOf table.now register rows.old }
-    requires table_in_bounds { row_count table.now ≤ length keys.old }
-    requires order_len { length order.old ≡ largest_count }
-    requires at_in_bounds { at + 5 ≤ length list.old }
-    ensures { list.new ≡ sets list.old at (entry table.now register) }
+// The same of a register of the table. It is screened once for both questions.
+fn put_entry(road: &Road, register: u64, room: &mut Room, list: &mut [u64], at: usize)
+    requires { at + 5 ≤ length list.old }
+    ensures { list.new ≡ sets list.old at (entry road.now.table.now register) }
 {
-    let met = roads::examine(table, keys, rows);
-    let one = roads::answer(table, rows, met, ZONES, 0, order);
-    let two = roads::answer(table, rows, met, FZF, 0, order);
-    put(register, rows.len() as u64, one, two, list, at);
-}
-
-// The same, with the rows by register.
-fn put_own(
-    table: &[u64],
-    grouped: &[u64],
-    register: u64,
-    keys: &mut [u64],
-    rows: &mut [u64],
-    order: &mut [u64],
-    list: &mut [u64],
-    at: usize,
-)
-    requires sound { Sound table.now }
-    requires grouped_value { grouped.now ≡ by_register table.now }
-    requires table_in_bounds { row_count table.now ≤ length keys.old }
-    requires table_in_bounds_2 { row_count table.now ≤ length rows.old }
-    requires order_len { length order.old ≡ largest_count }
-    requires at_in_bounds { at + 5 ≤ length list.old }
-    ensures { list.new ≡ sets list.old at (entry table.now register) }
-{
-    let m = grouping::rows_of(table, grouped, register, rows);
-    put_entry(table, register, keys, &mut rows[..m], order, list, at);
+    let Room { keys, rows, order } = room;
+    let m = grouping::rows_of(road.table, road.grouped, register, rows);
+    let (rows, _) = rows.split_at_mut(m);
+    let met = roads::examine(road.table, keys, rows);
+    let one = roads::answer(road.table, rows, met, Question::Zones, 0, order);
+    let two = roads::answer(road.table, rows, met, Question::Fzf, 0, order);
+    let count = rows.len() as u64;
+    put(register, count, one, two, list, at);
 }
 
 // Those of each register, at the front of the list.
-fn put_entries(
-    table: &[u64],
-    grouped: &[u64],
-    registers: &[u64],
-    keys: &mut [u64],
-    rows: &mut [u64],
-    order: &mut [u64],
-    list: &mut [u64],
-)
-    requires sound { Sound table.now }
-    requires grouped_value { grouped.now ≡ by_register table.now }
-    requires table_in_bounds { row_count table.now ≤ length keys.old }
-    requires table_in_bounds_2 { row_count table.now ≤ length rows.old }
-    requires order_len { length order.old ≡ largest_count }
-    requires registers_in_bounds { length registers.now * 5 ≤ length list.old }
-    ensures { list.new ≡ written (flat_map (entry table.now) registers.now) list.old }
+fn put_entries(road: &Road, registers: &[u64], room: &mut Room, list: &mut [u64])
+    requires { length registers.now * 5 ≤ length list.old }
+    ensures { list.new ≡ written (flat_map (entry road.now.table.now) registers.now) list.old }
 {
-    let mut i: usize = 0;
-    while i < registers.len() {
-        put_own(
-            table,
-            grouped,
-            registers[i],
-            keys,
-            rows,
-            order,
-            list,
-            i * ENTRY,
-        );
-        i += 1;
+    for (i, &register) in registers.iter().enumerate() {
+        put_entry(road, register, room, list, i * ENTRY);
     }
 }
 
-// The summary, with places for the rows by register.
-fn summary_with(
-    table: &[u64],
-    keys: &mut [u64],
-    grouped: &mut [u64],
-    found: &mut [u64],
-    rows: &mut [u64],
-    order: &mut [u64],
-    list: &mut [u64],
-) -> Answer
-    requires sound { Sound table.now }
-    requires keys_len { length keys.old ≡ row_count table.now }
-    requires grouped_len { length grouped.old ≡ row_count table.now }
-    requires found_len { length found.old ≡ row_count table.now }
-    requires table_in_bounds { row_count table.now ≤ length rows.old }
-    requires order_len { length order.old ≡ largest_count }
+// The summary of a table that passes tests 1 and 2.
+fn sum_up(table: &[u64], list: &mut [u64]) -> Answer
+    requires { Sound table.now }
     ensures { Summed table.now list.old result list.new }
 {
+    let n = table.len() / Row::COLUMNS;
+    let mut room = Room {
+        keys: [0; Row::LARGEST_COUNT],
+        rows: [0; Row::LARGEST_COUNT],
+        order: [0; Row::LARGEST_COUNT],
+    };
+    let grouped = &mut [0u64; Row::LARGEST_COUNT][..n];
+    let found = &mut [0u64; Row::LARGEST_COUNT][..n];
+    let keys = &mut room.keys[..n];
     grouping::group(table, keys, grouped);
     let m = grouping::registers(keys, grouped, found);
     if list.len() < m * ENTRY {
-        return Answer::refused(Answer::SHORT_LIST, 0);
+        return Code::ShortList.at(0);
     }
-    put_entries(table, grouped, &found[..m], keys, rows, order, list);
+    let road = Road { table, grouped };
+    put_entries(&road, &found[..m], &mut room, list);
     Answer::passed(m as u64)
 }
 
@@ -144,24 +82,10 @@ pub fn summary(table: &[u64], list: &mut [u64]) -> Answer
     ensures said { (i : ℕ) → result.code ≡ 0 → i < result.rows → Tells table.now list.new i }
 {
     if table.len() % Row::COLUMNS != 0 {
-        return Answer::refused(Answer::RAGGED, 0);
+        return Code::Ragged.at(0);
     }
-    let n = table.len() / Row::COLUMNS;
-    if Row::LARGEST_COUNT < n {
-        return Answer::refused(Answer::OVERFULL, 0);
+    if Row::LARGEST_COUNT < table.len() / Row::COLUMNS {
+        return Code::Overfull.at(0);
     }
-    let mut keys = [0u64; Row::LARGEST_COUNT];
-    let mut grouped = [0u64; Row::LARGEST_COUNT];
-    let mut found = [0u64; Row::LARGEST_COUNT];
-    let mut rows = [0u64; Row::LARGEST_COUNT];
-    let mut order = [0u64; Row::LARGEST_COUNT];
-    summary_with(
-        table,
-        &mut keys[..n],
-        &mut grouped[..n],
-        &mut found[..n],
-        &mut rows,
-        &mut order,
-        list,
-    )
+    sum_up(table, list)
 }

@@ -1,11 +1,12 @@
 -- A loop that writes a list into a buffer part by part: what the rest makes of the buffer now, the whole makes of the buffer that was.
 -- Assumes nothing.
-use Prim.Native.Nat.{ℕ, ◌+◌}
-use mathlib.Core.Path.{◌≡◌, refl, ap, ◌∙◌}
-use mathlib.Core.List.{List, [], ◌++◌}
+use Prim.Native.Nat.{ℕ, ◌+◌, ◌-◌, ◌≤◌}
+use mathlib.Core.Path.{◌≡◌, refl, ap, sym, ◌∙◌}
+use mathlib.Core.List.{List, [], ◌++◌, append_assoc}
 use native.Mathlib.Omega.{arith}
-use lib.ListN.{length, length-append}
-use lib.Seq.{sets, length-sets}
+use lib.ListN.{length, length-append, take, drop}
+use lib.Seq.{sets, sets-eq, length-sets, drop-drop}
+use borrow.Rule.Slice.PartMut.{put_mid}
 use Rattle.lists.proofs.Stores.{sets_append}
 
 -- `rest` is left to be written at a place
@@ -34,3 +35,9 @@ module _ {old : List ℕ} {at : ℕ} {whole : List ℕ} {out : List ℕ} {place 
 pub put_all : {old whole out : List ℕ} {place : ℕ} {rest : List ℕ} → Putting old 0 whole out place rest → rest ≡ []
     → (place ≡ length whole) × (out ≡ sets old 0 whole)
 put_all g e = (omega (arith, g.room, ap length e), (put_end g e).1)
+
+-- A list copied over a part of a buffer.
+pub put_over : (at : ℕ) (vs out : List ℕ) → at + length vs ≤ length out → put_mid at (at + length vs - at) out vs ≡ sets out at vs
+put_over at vs out h =
+    let e : at + length vs - at ≡ length vs = omega arith in
+    rw (e, drop-drop (length vs) at out, sets-eq vs out at h) (sym (append_assoc (take at out) vs (drop (at + length vs) out)))

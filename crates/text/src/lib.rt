@@ -1,7 +1,7 @@
 // Decimal text: numbers and lines of numbers, printed into a lent buffer.
 #![tactic(auto)]
 
-ghost use Rattle.std.specs.Prelude.{◌≡◌, [], ◌∷◌, ◌++◌, ◌+◌, ◌^◌, ◌≤◌, ◌<◌, length, drop};
+ghost use Rattle.std.specs.Prelude.{◌≡◌, [], ◌∷◌, ◌++◌, ◌+◌, ◌^◌, ◌≤◌, ◌<◌, length};
 ghost use Rattle.std.proofs.lemmas.List.Edits.{sets};
 ghost use Rattle.text.specs.Decimal.{digits, decimal, behind, line};
 
@@ -36,12 +36,9 @@ pub fn put_bytes(text: &[u8], out: &mut [u8], at: usize) -> usize
     requires { at + length text.now ≤ length out.old }
     ensures { (result ≡ at + length text.now) × (out.new ≡ sets out.old at text.now) }
 {
-    let mut i = 0;
-    while i < text.len() {
-        out[at + i] = text[i];
-        i += 1;
-    }
-    at + i
+    let end = at + text.len();
+    out[at..end].copy_from_slice(text);
+    end
 }
 
 // Writes a comma and n.
@@ -53,17 +50,14 @@ fn put_behind(n: u64, out: &mut [u8], at: usize) -> usize
     put_number(n, out, at + 1)
 }
 
-// Writes the numbers from the second on, each behind a comma, and the line feed.
-fn put_rest(numbers: &[u64], out: &mut [u8], at: usize) -> usize
-    requires { at + length (behind (drop 1 numbers.now) ++ (10 ∷ [])) ≤ length out.old }
-    ensures { (result ≡ at + length (behind (drop 1 numbers.now) ++ (10 ∷ []))) ×
-        (out.new ≡ sets out.old at (behind (drop 1 numbers.now) ++ (10 ∷ []))) }
+// Writes the numbers behind a line's first, each behind a comma, and the line feed.
+fn put_rest(rest: &[u64], out: &mut [u8], at: usize) -> usize
+    requires { at + length (behind rest.now ++ (10 ∷ [])) ≤ length out.old }
+    ensures { (result ≡ at + length (behind rest.now ++ (10 ∷ []))) × (out.new ≡ sets out.old at (behind rest.now ++ (10 ∷ []))) }
 {
     let mut place = at;
-    let mut i = 1;
-    while i < numbers.len() {
-        place = put_behind(numbers[i], out, place);
-        i += 1;
+    for n in rest {
+        place = put_behind(*n, out, place);
     }
     out[place] = b'\n';
     place + 1
@@ -74,12 +68,12 @@ pub fn put_line(numbers: &[u64], out: &mut [u8], at: usize) -> usize
     requires { at + length (line numbers.now) ≤ length out.old }
     ensures { (result ≡ at + length (line numbers.now)) × (out.new ≡ sets out.old at (line numbers.now)) }
 {
-    if numbers.len() < 1 {
+    let [first, rest @ ..] = numbers else {
         out[at] = b'\n';
         return at + 1;
-    }
-    let next = put_number(numbers[0], out, at);
-    put_rest(numbers, out, next)
+    };
+    let next = put_number(*first, out, at);
+    put_rest(rest, out, next)
 }
 
 // How many bytes n takes in decimal.
@@ -87,15 +81,13 @@ pub fn decimal_length(n: u64) -> usize
     ensures { result ≡ length (decimal n) }
 {
     let mut rest = n;
-    let mut count = 0;
-    while count < 20 {
-        count += 1;
+    for more in 0..20 {
         if rest < 10 {
-            return count;
+            return more + 1;
         }
-        rest = rest / 10;
+        rest /= 10;
     }
-    count
+    20
 }
 
 // How many bytes a line of numbers takes. The bound keeps the sum within 64 bits.
@@ -103,14 +95,12 @@ pub fn line_length(numbers: &[u64]) -> usize
     requires { length numbers.now < 2 ^ 59 }
     ensures { result ≡ length (line numbers.now) }
 {
-    if numbers.len() < 1 {
+    if numbers.is_empty() {
         return 1;
     }
     let mut total = 0;
-    let mut i = 0;
-    while i < numbers.len() {
-        total += 1 + decimal_length(numbers[i]);
-        i += 1;
+    for n in numbers {
+        total += 1 + decimal_length(*n);
     }
     total
 }

@@ -5,7 +5,8 @@
 
 ghost use Rattle.std.specs.Prelude.{◌+◌, ◌*◌, ◌%◌, ◌<◌, ◌≤◌, length};
 
-use history::{Answer, Op, Row};
+use history::{Code, Kind, Op, Row};
+use marker::Question;
 use std::io::Print;
 
 const REGISTER: u64 = 7;
@@ -24,20 +25,12 @@ fn next(x: u64) -> u64 {
     (x % 2147483648 * 1103515245 + 12345) % 2147483648
 }
 
-// A remainder is below what divides.
-fn remainder(x: u64, bound: u64) -> u64
-    requires { 0 < bound }
-    ensures { result < bound }
-{
-    x % bound
-}
-
 // A number below a bound, from one of the run, whose lower bits repeat soon.
 fn pick(x: u64, bound: u64) -> u64
     requires { 0 < bound }
     ensures { result < bound }
 {
-    remainder(x / 65536, bound)
+    x / 65536 % bound
 }
 
 // Up to six rows, more often many than few.
@@ -52,48 +45,35 @@ fn size(x: u64) -> usize
 fn kind(i: usize, x: u64) -> u64 {
     let n = pick(x, 6);
     if n < i as u64 {
-        return Op::READ;
+        Kind::Read as u64
+    } else if i == 0 && n < 3 {
+        Kind::Opening as u64
+    } else {
+        Kind::Write as u64
     }
-    if 0 < i {
-        return Op::WRITE;
-    }
-    if n < 3 {
-        return Op::OPENING;
-    }
-    Op::WRITE
 }
 
 // A write has a value of its own, a read that of an earlier operation.
 fn value(table: &[u64], i: usize, kind: u64, x: u64) -> u64
     requires { i * 5 + 5 ≤ length table.now }
 {
-    if kind != Op::READ {
-        return i as u64;
+    if kind != Kind::Read as u64 {
+        i as u64
+    } else if i == 0 {
+        0
+    } else {
+        let j = pick(x, i as u64) as usize;
+        table[j * Row::COLUMNS + Row::VALUE]
     }
-    if i == 0 {
-        return 0;
-    }
-    let j = pick(x, i as u64) as usize;
-    table[j * Row::COLUMNS + Row::VALUE]
-}
-
-// The start of an operation that takes effect at a time, and begins less than `reach` before it, but not below 0.
-fn started(at: u64, before: u64) -> u64 {
-    if at < before {
-        return 0;
-    }
-    at - before
 }
 
 // A stamp of an operation, which is 0 for an opening.
 fn stamp(kind: u64, at: u64) -> u64 {
-    if kind == Op::OPENING {
-        return 0;
-    }
-    at
+    if kind == Kind::Opening as u64 { 0 } else { at }
 }
 
-// Puts operation i into its row: it takes effect at a time of its own, and begins and ends less than `reach` away from it. Stamps may be equal.
+// Puts operation i into its row: it takes effect at a time of its own, and begins, at 0 or later, and ends less than `reach` away
+// from it. Stamps may be equal.
 fn operation(table: &mut [u64], i: usize, reach: u64, seed: u64) -> u64
     requires { (i * 5 + 5 ≤ length table.old) × (i < 6) × (0 < reach) × (reach ≤ 100) }
 {
@@ -104,14 +84,11 @@ fn operation(table: &mut [u64], i: usize, reach: u64, seed: u64) -> u64
     let c = next(b);
     let number = i as u64;
     let at = 2 * number;
-    let start = stamp(kind, started(at, pick(b, reach)));
+    let start = stamp(kind, at.saturating_sub(pick(b, reach)));
     let finish = stamp(kind, at + pick(c, reach));
+    let row = [REGISTER, kind, value, start, finish];
     let base = i * Row::COLUMNS;
-    table[base + Row::REGISTER] = REGISTER;
-    table[base + Row::KIND] = kind;
-    table[base + Row::VALUE] = value;
-    table[base + Row::START] = start;
-    table[base + Row::FINISH] = finish;
+    table[base..base + Row::COLUMNS].copy_from_slice(&row);
     next(c)
 }
 
@@ -119,12 +96,9 @@ fn operation(table: &mut [u64], i: usize, reach: u64, seed: u64) -> u64
 fn fill(table: &mut [u64], reach: u64, seed: u64) -> u64
     requires { (length table.old ≤ 30) × (0 < reach) × (reach ≤ 100) }
 {
-    let n = table.len() / Row::COLUMNS;
     let mut x = seed;
-    let mut i: usize = 0;
-    while i < n {
+    for i in 0..table.len() / Row::COLUMNS {
         x = operation(table, i, reach, x);
-        i += 1;
     }
     x
 }
@@ -133,12 +107,8 @@ fn fill(table: &mut [u64], reach: u64, seed: u64) -> u64
 fn exchange(table: &mut [u64], a: usize, b: usize)
     requires { (a * 5 + 5 ≤ length table.old) × (b * 5 + 5 ≤ length table.old) }
 {
-    let mut column: usize = 0;
-    while column < Row::COLUMNS {
-        let kept = table[a * Row::COLUMNS + column];
-        table[a * Row::COLUMNS + column] = table[b * Row::COLUMNS + column];
-        table[b * Row::COLUMNS + column] = kept;
-        column += 1;
+    for column in 0..Row::COLUMNS {
+        table.swap(a * Row::COLUMNS + column, b * Row::COLUMNS + column);
     }
 }
 
@@ -146,14 +116,11 @@ fn exchange(table: &mut [u64], a: usize, b: usize)
 fn mix(table: &mut [u64], seed: u64) -> u64
     requires { length table.old ≤ 30 }
 {
-    let n = table.len() / Row::COLUMNS;
     let mut x = seed;
-    let mut i: usize = 0;
-    while i < n {
+    for i in 0..table.len() / Row::COLUMNS {
         x = next(x);
         let j = pick(x, i as u64 + 1) as usize;
         exchange(table, i, j);
-        i += 1;
     }
     x
 }
@@ -164,10 +131,7 @@ fn spoil(table: &mut [u64], seed: u64) -> u64
 {
     let n = table.len() / Row::COLUMNS;
     let a = next(seed);
-    if 0 < pick(a, 8) {
-        return a;
-    }
-    if n == 0 {
+    if 0 < pick(a, 8) || n == 0 {
         return a;
     }
     let b = next(a);
@@ -192,16 +156,13 @@ fn history(table: &mut [u64], seed: u64) -> u64
 
 // The list of the numbers below its length in the order of the number p; the numbers below the factorial of the length give all orders.
 fn permute(p: u64, list: &mut [u64]) {
-    let n = list.len();
     let mut rest = p;
-    let mut i: usize = 0;
-    while i < n {
+    for i in 0..list.len() {
         let choices = i as u64 + 1;
-        let j = remainder(rest, choices) as usize;
+        let j = (rest % choices) as usize;
         rest /= choices;
         list[i] = list[j];
         list[j] = i as u64;
-        i += 1;
     }
 }
 
@@ -219,53 +180,32 @@ fn orders_of(n: usize) -> u64 {
 
 // Whether the check accepts some order of the register's rows. The list has a place for each row.
 fn trial(table: &[u64], k: u64, list: &mut [u64]) -> bool {
-    let count = orders_of(list.len());
-    let mut p: u64 = 0;
-    while p < count {
+    (0..orders_of(list.len())).any(|p| {
         permute(p, list);
-        if orders::check(table, REGISTER, k, list).code == Answer::FRESH {
-            return true;
-        }
-        p += 1;
-    }
-    false
+        orders::check(table, REGISTER, k, list).code == 0
+    })
 }
 
 // Whether the mark of the question is fresh, with an order that is accepted, where some order is, and else stale. The list has a place for each row.
 fn agrees(table: &[u64], question: u64, k: u64, fresh: bool, list: &mut [u64]) -> bool {
     let answer = marker::mark(table, REGISTER, question, TRIALS, list);
-    if !fresh {
-        return answer.code == Answer::STALE;
+    if fresh {
+        answer.code == 0 && orders::check(table, REGISTER, k, list).code == 0
+    } else {
+        answer.code == Code::Stale as u64
     }
-    if answer.code != Answer::FRESH {
-        return false;
-    }
-    orders::check(table, REGISTER, k, list).code == Answer::FRESH
 }
 
 // Whether the operation has the stamp; an opening's are no times of its own.
 fn has_stamp(o: Op, stamp: u64) -> bool {
-    if o.is_opening() {
-        return false;
-    }
-    if o.start == stamp {
-        return true;
-    }
-    o.finish == stamp
+    !o.is_opening() && (o.start == stamp || o.finish == stamp)
 }
 
 // Whether one of the first rows has the stamp.
 fn has(table: &[u64], rows: usize, stamp: u64) -> bool
     requires { rows * 5 ≤ length table.now }
 {
-    let mut i: usize = 0;
-    while i < rows {
-        if has_stamp(Op::at(table, i), stamp) {
-            return true;
-        }
-        i += 1;
-    }
-    false
+    (0..rows).any(|i| has_stamp(Op::at(table, i), stamp))
 }
 
 // Whether a stamp of row i is equal to its other one or to one of a row before it.
@@ -273,56 +213,25 @@ fn meets(table: &[u64], i: usize) -> bool
     requires { i * 5 + 5 ≤ length table.now }
 {
     let o = Op::at(table, i);
-    if o.is_opening() {
-        return false;
-    }
-    if o.start == o.finish {
-        return true;
-    }
-    if has(table, i, o.start) {
-        return true;
-    }
-    has(table, i, o.finish)
+    !o.is_opening() && (o.start == o.finish || has(table, i, o.start) || has(table, i, o.finish))
 }
 
 // Whether two stamps of the table are equal.
 fn tied(table: &[u64]) -> bool {
-    let n = table.len() / Row::COLUMNS;
-    let mut i: usize = 0;
-    while i < n {
-        if meets(table, i) {
-            return true;
-        }
-        i += 1;
-    }
-    false
+    (0..table.len() / Row::COLUMNS).any(|i| meets(table, i))
 }
 
 // Whether a row of the table is an opening.
 fn opened(table: &[u64]) -> bool {
-    let n = table.len() / Row::COLUMNS;
-    let mut i: usize = 0;
-    while i < n {
-        if Op::at(table, i).is_opening() {
-            return true;
-        }
-        i += 1;
-    }
-    false
+    (0..table.len() / Row::COLUMNS).any(|i| Op::at(table, i).is_opening())
 }
 
 // One more, where it is so.
 fn more(count: u64, so: bool) -> u64 {
-    if !so {
-        return count;
-    }
-    if count < 18446744073709551615 {
-        return count + 1;
-    }
-    count
+    count.saturating_add(u64::from(so))
 }
 
-#[derive(Clone, Copy)]
+#[derive(Clone, Copy, Default)]
 struct Tally {
     histories: u64,
     tied: u64,
@@ -362,10 +271,11 @@ fn made(tally: Tally, table: &mut [u64], seed: u64, question: u64, k: u64) -> Ta
     requires { length table.old ≤ 30 }
 {
     history(table, seed);
-    if screening::screen(table, REGISTER).code != Answer::FRESH {
-        return tally;
+    if screening::screen(table, REGISTER).code == 0 {
+        tallied(tally, table, question, k)
+    } else {
+        tally
     }
-    tallied(tally, table, question, k)
 }
 
 // One history more, the one with the number.
@@ -380,18 +290,9 @@ fn turn(tally: Tally, number: u64, question: u64, k: u64) -> Tally
 
 // The histories of the run, marked by the question.
 fn compared(question: u64, k: u64) -> Tally {
-    let mut tally = Tally {
-        histories: 0,
-        tied: 0,
-        opened: 0,
-        fresh: 0,
-        stale: 0,
-        differences: 0,
-    };
-    let mut i: u64 = 0;
-    while i < HISTORIES {
-        tally = turn(tally, i, question, k);
-        i += 1;
+    let mut tally = Tally::default();
+    for number in 0..HISTORIES {
+        tally = turn(tally, number, question, k);
     }
     tally
 }
@@ -413,7 +314,8 @@ fn show<R: Print>(rt: &R, question: u64, tally: Tally) {
 }
 
 fn main(rt: HostRuntime) {
-    show(&rt, 1, compared(1, 1));
-    show(&rt, 2, compared(2, 2));
-    show(&rt, 3, compared(3, 2));
+    for (question, k) in [(Question::Zones, 1), (Question::Lbt, 2), (Question::Fzf, 2)] {
+        let question = question as u64;
+        show(&rt, question, compared(question, k));
+    }
 }

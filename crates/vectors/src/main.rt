@@ -3,6 +3,7 @@
 #![tactic(auto)]
 
 use history::Row;
+use marker::Question;
 use std::io::Print;
 
 const C2: [u64; 15] = [7, 1, 1, 1, 2, 7, 1, 2, 3, 4, 7, 2, 1, 5, 6];
@@ -43,101 +44,92 @@ const OPENING_AT_1: [u64; 5] = [7, 3, 1, 0, 1];
 
 // Fills the table with writes of register 7, one after the other, each of a value of its own.
 fn fill(table: &mut [u64]) {
-    let n = table.len() / Row::COLUMNS;
-    let mut i: usize = 0;
-    let mut stamp: u64 = 0;
-    while i < n {
+    for i in 0..table.len() / Row::COLUMNS {
+        let stamp = 2 * i as u64;
         let base = i * Row::COLUMNS;
-        table[base + Row::REGISTER] = 7;
-        table[base + Row::KIND] = 1;
-        table[base + Row::VALUE] = stamp;
-        table[base + Row::START] = stamp + 1;
-        table[base + Row::FINISH] = stamp + 2;
-        stamp += 2;
-        i += 1;
+        table[base..base + Row::COLUMNS].copy_from_slice(&[7, 1, stamp, stamp + 1, stamp + 2]);
+    }
+}
+
+// Tables screened for register 7.
+fn screened<R: Print>(rt: &R, cases: &[(&[u8], &[u64])]) {
+    for (name, table) in cases {
+        answer_lines::show(rt, name, screening::screen(table, 7));
+    }
+}
+
+// Orders of register 7, checked: a name, a table, a k and the order.
+fn checked<R: Print>(rt: &R, cases: &[(&[u8], &[u64], u64, &[u64])]) {
+    for (name, table, k, order) in cases {
+        answer_lines::show(rt, name, orders::check(table, 7, *k, order));
     }
 }
 
 fn histories<R: Print>(rt: &R) {
-    answer_lines::show(rt, b"C1 screened", screening::screen(&[], 7));
-    answer_lines::show(rt, b"C2 screened", screening::screen(&C2, 7));
+    screened(rt, &[(b"C1 screened", &[]), (b"C2 screened", &C2)]);
     answer_lines::show(rt, b"C2 for another register", screening::screen(&C2, 8));
-    answer_lines::show(rt, b"C7 screened", screening::screen(&C7, 7));
-    answer_lines::show(rt, b"C8 screened", screening::screen(&C8, 7));
+    screened(rt, &[(b"C7 screened", &C7), (b"C8 screened", &C8)]);
 }
 
 fn stamps<R: Print>(rt: &R) {
-    answer_lines::show(rt, b"C12 largest stamp", screening::screen(&LARGEST, 7));
-    answer_lines::show(rt, b"C12 a larger one", screening::screen(&TOO_LARGE, 7));
-    answer_lines::show(
+    screened(
         rt,
-        b"C12 start equal to finish",
-        screening::screen(&EMPTY_SPAN, 7),
+        &[
+            (b"C12 largest stamp", &LARGEST),
+            (b"C12 a larger one", &TOO_LARGE),
+            (b"C12 start equal to finish", &EMPTY_SPAN),
+        ],
     );
 }
 
 fn limits<R: Print>(rt: &R) {
     let mut full = [0u64; 5120];
     fill(&mut full);
-    answer_lines::show(rt, b"C11 1024 rows", screening::screen(&full, 7));
     let mut overfull = [0u64; 5125];
     fill(&mut overfull);
-    answer_lines::show(rt, b"C11 1025 rows", screening::screen(&overfull, 7));
+    screened(
+        rt,
+        &[(b"C11 1024 rows", &full), (b"C11 1025 rows", &overfull)],
+    );
 }
 
 fn orders_accepted<R: Print>(rt: &R) {
-    answer_lines::show(
+    checked(
         rt,
-        b"C2 in 0 1 2 for k 2",
-        orders::check(&C2, 7, 2, &[0, 1, 2]),
-    );
-    answer_lines::show(
-        rt,
-        b"C4 in 2 0 1 for k 1",
-        orders::check(&C4, 7, 1, &[2, 0, 1]),
-    );
-    answer_lines::show(
-        rt,
-        b"C4 in 0 2 1 for k 2",
-        orders::check(&C4, 7, 2, &[0, 2, 1]),
-    );
-    answer_lines::show(
-        rt,
-        b"C7 in 0 1 for the largest k",
-        orders::check(&C7, 7, 18446744073709551615, &[0, 1]),
+        &[
+            (b"C2 in 0 1 2 for k 2", &C2, 2, &[0, 1, 2]),
+            (b"C4 in 2 0 1 for k 1", &C4, 1, &[2, 0, 1]),
+            (b"C4 in 0 2 1 for k 2", &C4, 2, &[0, 2, 1]),
+            (
+                b"C7 in 0 1 for the largest k",
+                &C7,
+                18446744073709551615,
+                &[0, 1],
+            ),
+        ],
     );
 }
 
 fn orders_refused<R: Print>(rt: &R) {
-    answer_lines::show(
+    checked(
         rt,
-        b"C9 C2 in 0 1 2 for k 1",
-        orders::check(&C2, 7, 1, &[0, 1, 2]),
+        &[
+            (b"C9 C2 in 0 1 2 for k 1", &C2, 1, &[0, 1, 2]),
+            (b"C10 C2 in 1 0 2 for k 2", &C2, 2, &[1, 0, 2]),
+            (b"C2 in 0 1 2 for k 0", &C2, 0, &[0, 1, 2]),
+            (b"C8 in 0 1", &C8, 1, &[0, 1]),
+        ],
     );
-    answer_lines::show(
-        rt,
-        b"C10 C2 in 1 0 2 for k 2",
-        orders::check(&C2, 7, 2, &[1, 0, 2]),
-    );
-    answer_lines::show(
-        rt,
-        b"C2 in 0 1 2 for k 0",
-        orders::check(&C2, 7, 0, &[0, 1, 2]),
-    );
-    answer_lines::show(rt, b"C8 in 0 1", orders::check(&C8, 7, 1, &[0, 1]));
 }
 
 fn misfit_lists<R: Print>(rt: &R) {
-    answer_lines::show(rt, b"C2 in 0 1", orders::check(&C2, 7, 2, &[0, 1]));
-    answer_lines::show(
+    checked(
         rt,
-        b"C2 in 0 1 2 2",
-        orders::check(&C2, 7, 2, &[0, 1, 2, 2]),
-    );
-    answer_lines::show(
-        rt,
-        b"C2 in 0 and no row",
-        orders::check(&C2, 7, 2, &[0, 18446744073709551615, 1]),
+        &[
+            (b"C2 in 0 1", &C2, 2, &[0, 1]),
+            (b"C2 in 0 1 2 2", &C2, 2, &[0, 1, 2, 2]),
+            (b"C2 in 0 and no row", &C2, 2, &[0, 18446744073709551615, 1]),
+        ],
     );
 }
 
@@ -152,80 +144,85 @@ fn line<R: Print>(rt: &R, name: &[u8], table: &[u64], question: u64, allowance: 
     answer_lines::places(rt, &list);
 }
 
-// The three questions, LBT with an allowance that is always enough.
-fn three<R: Print>(rt: &R, name: &[u8], table: &[u64]) {
-    line(rt, name, table, 1, 0);
-    line(rt, name, table, 2, 524800);
-    line(rt, name, table, 3, 0);
+// The three questions of each table, LBT with an allowance that is always enough.
+fn marked<R: Print>(rt: &R, cases: &[(&[u8], &[u64])]) {
+    for (name, table) in cases {
+        line(rt, name, table, Question::Zones as u64, 0);
+        line(rt, name, table, Question::Lbt as u64, 524800);
+        line(rt, name, table, Question::Fzf as u64, 0);
+    }
 }
 
 fn marks<R: Print>(rt: &R) {
-    three(rt, b"C1 marked", &[]);
-    three(rt, b"C2 marked", &C2);
-    three(rt, b"C3 marked", &C3);
-    three(rt, b"C4 marked", &C4);
-    three(rt, b"C5 marked", &C5);
-}
-
-fn more_marks<R: Print>(rt: &R) {
-    three(rt, b"C6 marked", &C6);
-    three(rt, b"C7 marked", &C7);
-    three(rt, b"C8 marked", &C8);
-}
-
-fn allowances<R: Print>(rt: &R) {
-    line(rt, b"C5 by LBT with 3 trials", &C5, 2, 3);
-    line(rt, b"C5 by LBT with 2 trials", &C5, 2, 2);
-    line(rt, b"C5 by LBT with none", &C5, 2, 0);
-    line(rt, b"C5 for question 0", &C5, 0, 3);
-    line(
+    marked(
         rt,
-        b"C5 for the largest question",
-        &C5,
-        18446744073709551615,
-        3,
+        &[
+            (b"C1 marked", &[]),
+            (b"C2 marked", &C2),
+            (b"C3 marked", &C3),
+            (b"C4 marked", &C4),
+            (b"C5 marked", &C5),
+            (b"C6 marked", &C6),
+            (b"C7 marked", &C7),
+            (b"C8 marked", &C8),
+        ],
     );
 }
 
+fn allowances<R: Print>(rt: &R) {
+    let cases: [(&[u8], u64, u64); 5] = [
+        (b"C5 by LBT with 3 trials", 2, 3),
+        (b"C5 by LBT with 2 trials", 2, 2),
+        (b"C5 by LBT with none", 2, 0),
+        (b"C5 for question 0", 0, 3),
+        (b"C5 for the largest question", 18446744073709551615, 3),
+    ];
+    for (name, question, allowance) in cases {
+        line(rt, name, &C5, question, allowance);
+    }
+}
+
 fn marked_stamps<R: Print>(rt: &R) {
-    three(rt, b"C12 largest stamp marked", &LARGEST);
-    three(rt, b"C12 a larger one marked", &TOO_LARGE);
-    three(rt, b"C12 start equal to finish marked", &EMPTY_SPAN);
+    marked(
+        rt,
+        &[
+            (b"C12 largest stamp marked", &LARGEST),
+            (b"C12 a larger one marked", &TOO_LARGE),
+            (b"C12 start equal to finish marked", &EMPTY_SPAN),
+        ],
+    );
 }
 
 fn opened<R: Print>(rt: &R) {
-    three(rt, b"an opening read after one write", &READ_AFTER_ONE);
-    three(rt, b"an opening read after two writes", &READ_AFTER_TWO);
-    three(
+    marked(
         rt,
-        b"a write inside the zone of the opening",
-        &INSIDE_OPENING,
+        &[
+            (b"an opening read after one write", &READ_AFTER_ONE),
+            (b"an opening read after two writes", &READ_AFTER_TWO),
+            (b"a write inside the zone of the opening", &INSIDE_OPENING),
+        ],
     );
 }
 
 fn refused_openings<R: Print>(rt: &R) {
-    answer_lines::show(rt, b"two openings", screening::screen(&TWO_OPENINGS, 7));
-    answer_lines::show(
+    screened(
         rt,
-        b"an opening with a stamp",
-        screening::screen(&OPENING_AT_1, 7),
+        &[
+            (b"two openings", &TWO_OPENINGS),
+            (b"an opening with a stamp", &OPENING_AT_1),
+        ],
     );
-    answer_lines::show(
-        rt,
-        b"an opening that is not first in an order",
-        orders::check(&INSIDE_OPENING, 7, 2, &[0, 2, 1]),
-    );
+    let name = b"an opening that is not first in an order";
+    checked(rt, &[(name, &INSIDE_OPENING, 2, &[0, 2, 1])]);
 }
 
 // One mark of register 7; of the list the first and the last two places are shown.
 fn ends<R: Print>(rt: &R, name: &[u8], table: &[u64], question: u64, list: &mut [u64]) {
     answer_lines::show(rt, name, marker::mark(table, 7, question, 524800, list));
-    let n = list.len();
-    if n < 4 {
-        answer_lines::places(rt, list);
-        return;
+    match list {
+        [a, b, .., c, d] => answer_lines::places(rt, &[*a, *b, *c, *d]),
+        _ => answer_lines::places(rt, list),
     }
-    answer_lines::places(rt, &[list[0], list[1], list[n - 2], list[n - 1]]);
 }
 
 // The full table by each question, with a place too few, and a table with a row too many.
@@ -233,22 +230,28 @@ fn marked_limits<R: Print>(rt: &R) {
     let mut full = [0u64; 5120];
     fill(&mut full);
     let mut list = [9000u64; 1024];
-    ends(rt, b"C11 1024 rows by zones", &full, 1, &mut list);
-    ends(rt, b"C11 1024 rows by LBT", &full, 2, &mut list);
-    ends(rt, b"C11 1024 rows by FZF", &full, 3, &mut list);
+    let cases: [(&[u8], Question); 3] = [
+        (b"C11 1024 rows by zones", Question::Zones),
+        (b"C11 1024 rows by LBT", Question::Lbt),
+        (b"C11 1024 rows by FZF", Question::Fzf),
+    ];
+    for (name, question) in cases {
+        ends(rt, name, &full, question as u64, &mut list);
+    }
 }
 
 fn refused_limits<R: Print>(rt: &R) {
     let mut full = [0u64; 5120];
     fill(&mut full);
-    ends(rt, b"C11 a place too few", &full, 3, &mut [9000u64; 1023]);
+    let fzf = Question::Fzf as u64;
+    ends(rt, b"C11 a place too few", &full, fzf, &mut [9000u64; 1023]);
     let mut overfull = [0u64; 5125];
     fill(&mut overfull);
     ends(
         rt,
         b"C11 1025 rows marked",
         &overfull,
-        3,
+        fzf,
         &mut [9000u64; 1025],
     );
 }
@@ -273,7 +276,6 @@ fn main(rt: HostRuntime) {
     misfit_lists(&rt);
     written(&rt);
     marks(&rt);
-    more_marks(&rt);
     allowances(&rt);
     marked_stamps(&rt);
     opened(&rt);

@@ -9,8 +9,8 @@ use mathlib.Core.List.{List, map}
 use native.Mathlib.Decide.{ℕ_discrete}
 use native.Mathlib.Omega.{arith}
 use borrow.Author.Tests.{eq-eqb, ne_eqb}
-use lib.ListN.{length, get_or, take, drop, replicate, set, length-set, length-map, get_or-replicate}
-use lib.Seq.{drop-cons, drop-length, get_or-take, get_or-set_same, get_or-set_other}
+use lib.ListN.{length, get_or, drop, set, length-set, length-map}
+use lib.Seq.{drop-cons, drop-length, get_or-set_same, get_or-set_other}
 use Rattle.lists.proofs.Images.{get_d_map}
 use Rattle.history.specs.Table.{op_at, is_write}
 use Rattle.firsts.specs.Firsts.{Firsts}
@@ -114,11 +114,3 @@ module _ (t rows firsts : List ℕ) where
     where
       go : (j : ℕ) → j < n → get_or slots (get_or firsts j 0) 0 + (0 + seek (writes_at t (val j)) rows) ≡ n → get_or slots (get_or firsts j 0) 0 + seek (writes_at t (val j)) rows ≡ n
       go j h q = omega arith
-
--- the first places of an equal column
-pub firsts_of : {keys same firsts : List ℕ} → keys ≡ same → Firsts keys firsts → Firsts same firsts
-firsts_of e f = rw (← e) f
-
--- the front of an array of zeros
-pub zeros_front : (size k : ℕ) → k ≤ size → (j : ℕ) → j < k → get_or (take k (replicate {A = ℕ} size 0)) j 0 ≡ 0
-zeros_front size k l j h = get_or-take k (replicate {A = ℕ} size 0) j 0 h ∙ get_or-replicate {A = ℕ} size j 0 0 (omega arith)

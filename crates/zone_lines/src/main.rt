@@ -1,14 +1,12 @@
 // zone_lines REGISTER: reads a history file from standard input and prints the zone list of the register.
 #![tactic(auto)]
 
-use parsing::Number;
-
 fn main(rt: HostRuntime) {
     if !console::is_given(&rt, 1) || console::is_given(&rt, 2) {
         console::complain(&rt.stderr(), b"usage: zone_lines REGISTER <HISTORY\n");
         return;
     }
-    let Number::Is(register) = console::number(&rt, 1) else {
+    let Some(register) = console::number(&rt, 1) else {
         console::complain(
             &rt.stderr(),
             b"zone_lines: REGISTER is not a decimal number of 64 bits\n",
@@ -16,12 +14,10 @@ fn main(rt: HostRuntime) {
         return;
     };
     let mut input = [0u8; files::LONGEST];
-    let got = console::take(&mut rt.stdin(), &mut input);
-    if !got.sound {
+    let Ok(n) = console::take(&mut rt.stdin(), &mut input) else {
         console::complain(&rt.stderr(), b"zone_lines: standard input cannot be read\n");
         return;
-    }
-    let n = got.count;
+    };
     let mut out = [0u8; 131072];
     let printed = zone_report::zones(&input[..n], register, &mut out);
     console::print(&rt, &rt.stderr(), &out, printed.rows);

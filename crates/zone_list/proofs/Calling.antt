@@ -11,7 +11,8 @@ use borrow.Author.Tests.{lt-ltb, le-ltb, eq-eqb, ne_eqb}
 use Rattle.history.specs.declared.Op.{Op}
 use Rattle.history.specs.declared.Answer.{Answer}
 use Rattle.history.specs.Table.{history, Alike}
-use Rattle.history.specs.Answer.{short_list, refused, passed}
+use Rattle.history.specs.Answer.{refused, passed}
+use Rattle.history.specs.declared.Code.TheVariants.{ShortList}
 use Rattle.history.specs.Screen.{Screened, tests, examined, screening}
 use Rattle.history.proofs.Rows.{same_history}
 use Rattle.history.proofs.Refusals.{no_fault_answer}
@@ -58,7 +59,7 @@ module _ (t : List ℕ) (register : ℕ) (list : List ℕ) where
     unfolding screening examined
     passed_is = no_fault_answer (tests (length t) h false) (passed (length h)) (screened_no_fault (length t) h false refl s)
 
-    call_short : length list < n * 4 → (r : Answer) → r ≡ refused short_list 0 → outcome r after ≡ zone_call t register list
+    call_short : length list < n * 4 → (r : Answer) → r ≡ refused ShortList 0 → outcome r after ≡ zone_call t register list
     unfolding zone_call listed
     call_short l r k =
         ap₂ (λ (x : Answer) (y : List ℕ). outcome x y) k (q.short l)
@@ -83,7 +84,7 @@ module _ (t : List ℕ) (register : ℕ) (list : List ℕ) where
     s : Screened (length t) (history t register)
     s = met_screened t register a e z
 
-    pub promised_short : length list < n * 4 → (r : Answer) → r ≡ refused short_list 0 → Promised r after
+    pub promised_short : length list < n * 4 → (r : Answer) → r ≡ refused ShortList 0 → Promised r after
     promised_short l r k =
         let c = call_short a (is_screening t register a e) z s n after q l r k in
         (c, (λ x. absurd (omega (arith, x, ap (λ (y : Answer). y.code) k)), λ u x. c ∙ alike_call u x))

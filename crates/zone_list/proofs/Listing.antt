@@ -1,15 +1,17 @@
 -- The numbers by the columns are the defined zone list.
 -- Assumes nothing.
-use Prim.Native.Nat.{ℕ, suc, ◌+◌, ◌*◌, ◌≤◌, ◌<◌}
+use Prim.Native.Nat.{ℕ, ◌+◌, ◌-◌, ◌*◌, ◌≤◌, ◌<◌}
 use mathlib.Core.Path.{◌≡◌, refl, ap, sym, ◌∙◌}
 use mathlib.Core.Bool.{Bool, true, false}
 use mathlib.Core.List.Memᴰ.{head as here}
 use mathlib.Core.List.Memᴰ.{tail as there}
-use mathlib.Core.List.{List, [], ◌∷◌, ◌++◌, map, flat_map, Memᴰ as In}
+use mathlib.Core.List.{List, [], ◌∷◌, ◌++◌, map, flat_map, append_assoc, Memᴰ as In}
 use native.Mathlib.Omega.{arith}
 use lib.Dec.{eqb}
-use lib.ListN.{length, get_or, set, take, length-map}
-use lib.Seq.{sets, length-take-le}
+use lib.ListN.{length, get_or, take, length-map}
+use Rattle.std.proofs.lemmas.List.{drop-drop}
+use lib.Seq.{sets, sets-eq, length-take-le}
+use borrow.Rule.Slice.PartMut.{put_mid}
 use Rattle.lists.specs.Lists.{keep}
 use Rattle.lists.specs.Sorts.{sort}
 use Rattle.lists.proofs.Entries.{flat_long}
@@ -26,27 +28,25 @@ use Rattle.methods.specs.Mark.{written}
 use Rattle.preparation.proofs.Ranks.{latest_small}
 use Rattle.positions.specs.Places.{upto}
 use Rattle.positions.specs.Columns.{Cols, size, wr, mine, nothing, op, Of, Sound}
-use Rattle.positions.proofs.Columns.{size_is, same_is, of_sound}
+use Rattle.positions.proofs.OfHistory.{size_is, same_is, of_sound}
 use Rattle.writers.specs.Writers.{row_op}
 use Rattle.columns.specs.Rows.{Listed}
 use Rattle.columns.specs.Made.{Made}
 use Rattle.columns.proofs.Listed.{listed_ops, in_history}
 use Rattle.columns.proofs.Made.{prepared_rows, value_at}
 use Rattle.columns.proofs.Lent.{rows_long as lent_long}
-use Rattle.zones.specs.Zones.{zone_by, Ends, Zoned, writes_at, by_low}
-use Rattle.zones.proofs.LastStarts.{sound_ends}
+use Rattle.zones.specs.Zones.{zone_by, Zoned, writes_at, by_low}
 use Rattle.zones.proofs.ByLow.{write_of, zone_at, by_low_lem, by_low_in, by_low_write}
 use Rattle.zone_list.specs.ZoneList.{stamps_of, directed, numbers_of, zone_list}
 use Rattle.zone_list.specs.Stamps.{stamps_at, Writes, numbers_at, OfRows}
 use Rattle.zone_list.proofs.Clusters.{least_sort, greatest_sort, least_map, greatest_map, least_own, greatest_own, keep_at}
 
--- four numbers stored one by one
-pub four_stored : (list : List ℕ) (at a b c d : ℕ) → set (set (set (set list at a) (at + 1) b) (at + 2) c) (at + 3) d ≡ sets list at (a ∷ b ∷ c ∷ d ∷ [])
-four_stored list at a b c d =
-    let p1 : at + 1 ≡ suc at = omega arith in
-    let p2 : at + 2 ≡ suc (suc at) = omega arith in
-    let p3 : at + 3 ≡ suc (suc (suc at)) = omega arith in
-    rw (p1, p2, p3) refl
+-- four numbers stored at a place
+pub four_stored : (list : List ℕ) (at : ℕ) (new four : List ℕ) → at + 4 ≤ length list → length four ≡ 4 → new ≡ four → put_mid at (at + 4 - at) list new ≡ sets list at four
+four_stored list at new four h l e =
+    let k : at + 4 - at ≡ length four = omega (arith, l) in
+    let b : at + length four ≤ length list = omega (arith, l) in
+    rw (k, e, drop-drop) (sym (sets-eq four list at b ∙ append_assoc (take at list) four _))
 
 -- four numbers, whichever way
 directed_long : (n : ℕ) (b : Bool) (s : Zone) → length (n ∷ directed b s) ≡ 4
@@ -92,17 +92,8 @@ module _ {t : List ℕ} {register : ℕ} {rows : List ℕ} (g : Listed t registe
   made_sound = of_sound of m.chains
 
   -- the column of writers has a place for each row
-  pub writers_long : length C.writer ≡ length rows
+  writers_long : length C.writer ≡ length rows
   writers_long = of.long ∙ sym rows_long
-
-  -- what is taken for the writes by low end
-  pub low_takes : {late low places : ℕ} → late ≡ length rows → length rows ≤ low → places ≡ length rows →
-      Ends C.start C.writer C.last
-      × ((length C.finish ≡ length C.writer) × ((late ≡ length C.start) × ((length C.writer ≤ low) × (length C.writer ≤ places))))
-  low_takes a b c =
-      let f = made_sound.ending in
-      let w = writers_long in
-      (sound_ends C made_sound, (omega (arith, f, w, made_size), (omega (arith, made_size), (omega (arith, w), omega (arith, w)))))
 
   module _ (w : ℕ) (q : In w (writes_at C.writer)) where
     abbrev p : ℕ → List ℕ
@@ -173,7 +164,7 @@ module _ {t : List ℕ} {register : ℕ} {rows : List ℕ} (g : Listed t registe
       front : n ≤ length places
       front = omega (arith, a, writers_long, room)
 
-      pub places_long : length (take n places) ≡ n
+      places_long : length (take n places) ≡ n
       places_long = length-take-le n places front
 
       -- what is taken for their numbers
@@ -189,7 +180,7 @@ module _ {t : List ℕ} {register : ℕ} {rows : List ℕ} (g : Listed t registe
 -- THE FILLING, of whatever register has the rows
 module _ {t rows : List ℕ} {C : Cols} (m : Made t rows C) (g : (register : ℕ) × Listed t register rows) (late : List ℕ) (z : Zoned C late) (n : ℕ) (places : List ℕ)
     (a : n ≤ length C.writer) (room : length places ≡ length rows) (b : take n places ≡ by_low C.finish late C.writer) where
-  pub fill_few : n ≤ length rows
+  fill_few : n ≤ length rows
   fill_few = omega (arith, a, writers_long g.1 m)
 
   -- where the list is too short

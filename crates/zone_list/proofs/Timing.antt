@@ -25,7 +25,7 @@ use Rattle.preparation.proofs.Timed.{timed}
 use Rattle.preparation.proofs.Finish.{New, whole, cut, new, new_le}
 use Rattle.clusters.proofs.Clusters.{first_finish_lem, ends_from}
 use Rattle.positions.specs.Columns.{Cols, nothing, op}
-use Rattle.positions.proofs.Columns.{size_is}
+use Rattle.positions.proofs.OfHistory.{size_is}
 use Rattle.writers.specs.Writers.{row_op}
 use Rattle.columns.specs.Rows.{Listed}
 use Rattle.columns.specs.Made.{Made}

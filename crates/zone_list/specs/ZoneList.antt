@@ -7,7 +7,8 @@ use Rattle.lists.specs.Sorts.{sort}
 use Rattle.history.specs.declared.Op.{Op}
 use Rattle.history.specs.declared.Answer.{Answer}
 use Rattle.history.specs.Table.{largest_stamp, history, Alike}
-use Rattle.history.specs.Answer.{fresh, short_list, number, refused, passed}
+use Rattle.history.specs.Answer.{number, refused, passed}
+use Rattle.history.specs.declared.Code.TheVariants.{Fresh, ShortList}
 use Rattle.history.specs.Screen.{screening}
 use Rattle.methods.specs.declared.Zone.{Zone}
 use Rattle.methods.specs.Extremes.{least, greatest}
@@ -43,13 +44,13 @@ outcome a l = record { answer = a; list = l }
 unfoldable pub listed : List Op → List ℕ → Outcome
 listed h list =
     let done = outcome (passed (length h)) (written (zone_list h) list) in
-    cond (ltb (length list) (length (zone_list h))) (outcome (refused short_list 0) list) done
+    cond (ltb (length list) (length (zone_list h))) (outcome (refused ShortList 0) list) done
 
 -- the call: the screening, then 10; a refusal leaves the list as it was (02, W-206)
 unfoldable pub zone_call : List ℕ → ℕ → List ℕ → Outcome
 zone_call t register list =
     let met = screening t register in
-    cond (eqb met.code (number fresh)) (listed (history t register) list) (outcome met list)
+    cond (eqb met.code (number Fresh)) (listed (history t register) list) (outcome met list)
 
 -- the outcome is that of every table of this length with the same rows of the register at the same places
 abbrev pub OfAlike : List ℕ → ℕ → List ℕ → Outcome → Type 0

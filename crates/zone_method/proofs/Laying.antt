@@ -4,10 +4,11 @@ use Prim.Native.Nat.{ℕ, suc, ◌+◌, ◌-◌, ◌≤◌, ◌<◌}
 use mathlib.Core.Path.{◌≡◌, refl, ap, sym, ◌∙◌}
 use mathlib.Core.Bool.{Bool, true, false, not}
 use mathlib.Core.Logic.{◌⊎◌, inl, inr}
-use mathlib.Core.List.{List, ◌∷◌, ◌++◌, flat_map, append_assoc}
+use mathlib.Core.List.{List, ◌∷◌, [], ◌++◌, flat_map, append_assoc}
 use native.Mathlib.Omega.{arith}
-use lib.ListN.{length, get_or, drop, length-append, length-drop, drop_of_length-le}
+use lib.ListN.{length, get_or, take, drop, length-append, length-drop, drop_of_length-le}
 use lib.Seq.{drop-cons}
+use Rattle.std.proofs.lemmas.List.{get_or-append-add, get_or-take, take-take, take_at}
 use borrow.Author.Tests.{eqb-true, eq-eqb, ne_eqb}
 use Rattle.lists.proofs.Tests.{both}
 use Rattle.positions.specs.Places.{upto, and, Once}
@@ -70,6 +71,22 @@ module _ (writer : List ℕ) (w : ℕ) (s : State) (h : Ready (length writer) s)
         above = λ j a b. o.free j b ∙ rw (h.above j (omega (arith, o.top)) b);
       }
 
+-- Of the list a front is left: what is taken from its end is the listed one there, and what stays is the front without it.
+pub left_push : (list rest less : List ℕ) (w : ℕ) → length rest ≤ length list → rest ≡ take (length rest) list → rest ≡ less ++ (w ∷ [])
+    → (length rest ≡ length less + 1) × ((w ≡ get_or list (length less) 0) × (less ≡ take (length less) list))
+left_push list rest less w h e p = (long, (last, stays))
+  where
+    long : length rest ≡ length less + 1
+    long = omega (arith, ap length p, length-append less (w ∷ []))
+
+    last : w ≡ get_or list (length less) 0
+    last =
+        let k : length less + 0 ≡ length less = omega arith in
+        sym (rw k at (get_or-append-add less (w ∷ []) 0 0)) ∙ ap (λ (l : List ℕ). get_or l (length less) 0) (sym p ∙ e) ∙ get_or-take (length rest) list (length less) 0 (omega (arith, long))
+
+    stays : less ≡ take (length less) list
+    stays = sym (take_at less (w ∷ []) (length less) refl) ∙ ap (take (length less)) (sym p ∙ e) ∙ take-take (length less) (length rest) list (omega (arith, long))
+
 -- The loop, where those from i on are laid.
 pub record Laying (writer list : List ℕ) (s : State) (i : ℕ) (t : State) : Type 0 where
   pub within : i ≤ length list
@@ -126,3 +143,14 @@ module _ (writer list : List ℕ) (s : State) where
             go : (j : ℕ) → j < length writer → (b : Bool) → mine writer w j ≡ b → Mine writer w t j ≡ read_of writer w j
             go j l true e = rw (g.whole.free (i - 1) j (omega arith) l (eqb-true (get_or writer j 0) w e))
             go j l false e = rw e (no_cond (is_free t.placed j))
+
+  -- the last of the front that is left
+  module _ (rest less : List ℕ) (w : ℕ) (e : rest ≡ take (length rest) list) (p : rest ≡ less ++ (w ∷ [])) (t : State) (g : Laying writer list s (length rest) t) where
+    k : (length rest ≡ length less + 1) × ((w ≡ get_or list (length less) 0) × (less ≡ take (length less) list))
+    k = left_push list rest less w g.within e p
+
+    less_is : length rest - 1 ≡ length less
+    less_is = omega (arith, k.0)
+
+    pub next_laid : Once list → (r : State) → Owned writer w t r → (less ≡ take (length less) list) × Laying writer list s (length less) r
+    next_laid d r o = (k.1.1, rw less_is at (lay_on (length rest) t g (omega (arith, k.0)) d r (rw (k.1.0, ← less_is) at o)))

@@ -2,7 +2,8 @@
 -- Assumes nothing.
 use Rattle.std.specs.Prelude.{ℕ, ◌≡◌, cond, List, [], ◌∷◌, ◌++◌, eqb}
 use Rattle.history.specs.Table.{history}
-use Rattle.history.specs.Answer.{number, fresh}
+use Rattle.history.specs.Answer.{number}
+use Rattle.history.specs.declared.Code.TheVariants.{Fresh}
 use Rattle.history.specs.Screen.{screening}
 use Rattle.methods.specs.Place.{write_count}
 use Rattle.text.specs.Decimal.{lines_of}
@@ -24,7 +25,7 @@ unfoldable pub zones_text : ℕ → List ℕ → List ℕ
 zones_text register t =
     let h = history t register in
     let met = screening t register in
-    cond (eqb met.code (number fresh)) (header ++ lines_of 4 (write_count h) (zone_list h)) (refused_line met)
+    cond (eqb met.code (number Fresh)) (header ++ lines_of 4 (write_count h) (zone_list h)) (refused_line met)
 
 -- what the lines show
 abbrev pub Meant : List ℕ → ℕ → Type 0

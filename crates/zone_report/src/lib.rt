@@ -37,11 +37,5 @@ pub fn zones(bytes: &[u8], register: u64, out: &mut [u8]) -> Answer
     ensures text { Printed (file_text bytes.now (zones_text register)) out.old result out.new }
     ensures shown { Meant (table_of bytes.now) register }
 {
-    let mut table = [0u64; Row::LARGEST_TABLE];
-    let loaded = files::read(bytes, &mut table);
-    if loaded.code != 0 {
-        return printing::refusal(loaded, out);
-    }
-    let n = (loaded.rows as usize) * Row::COLUMNS;
-    text(&table[..n], register, out)
+    printing::of_file(bytes, out, |table, out| text(table, register, out))
 }

@@ -26,7 +26,7 @@ use Rattle.positions.specs.Columns.{Cols, size, wr, is_own, op, ops, Of}
 use Rattle.positions.proofs.Once.{places_apart}
 use Rattle.positions.proofs.Places.{upto_ext, upto_length, in_upto}
 use Rattle.positions.proofs.Ops.{keep_ops}
-use Rattle.positions.proofs.Columns.{size_is, own_is}
+use Rattle.positions.proofs.OfHistory.{size_is, own_is}
 use Rattle.zones.specs.Zones.{zone_by, Zoned, Lows, lower_first, writes_at, by_low, Inside}
 use Rattle.zones.proofs.Zone.{all_ops}
 

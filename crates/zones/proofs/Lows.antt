@@ -40,13 +40,6 @@ module _ (start finish writer last column₀ list₀ : List ℕ) where
       }
 
   module _ (i m : ℕ) (late column list : List ℕ) (g : Listing start finish writer last i m late column column₀ list list₀) where
-    pub list_end : length writer ≤ i → length writer ≡ length start →
-        (m ≤ length writer) × (take m list ≡ writes_at writer) × Lates start writer last (length start) late × Lows finish late writer (length writer) column
-    list_end h s =
-        let e : i ≡ length writer = omega (arith, g.within) in
-        let d : i ≡ length start = omega arith in
-        (omega (arith, g.few), g.written ∙ rw e, rw d at g.lates, rw e at g.ends)
-
     module _ (h : i < length writer) where
       pub list_skip : (get_or writer i 0 ≡ i → ⊥) → Listing start finish writer last (i + 1) m late column column₀ list list₀
       list_skip d =

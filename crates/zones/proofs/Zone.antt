@@ -21,7 +21,7 @@ use Rattle.positions.specs.Columns.{Cols, size, wr, read_of, Sound, op, ops, Of}
 use Rattle.positions.proofs.Places.{upto_ext}
 use Rattle.positions.proofs.Latest.{latest_le}
 use Rattle.positions.proofs.Ops.{keep_ops, ops_all}
-use Rattle.positions.proofs.Columns.{size_is, start_is, finish_is, own_is, same_is, op_in}
+use Rattle.positions.proofs.OfHistory.{size_is, start_is, finish_is, own_is, same_is, op_in}
 use Rattle.zones.specs.Zones.{last_of, last_by, Lates, Zoned}
 
 greatest_more : (m : ℕ) (l : List Op) (x : Op) → greatest (λ o. o.start) m (l ++ (x ∷ [])) ≡ max (greatest (λ o. o.start) m l) x.start

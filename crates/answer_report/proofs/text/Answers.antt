@@ -1,18 +1,9 @@
-use mathlib.Core.Path.{refl, sym}
-use native.Mathlib.Omega.{arith}
-use Rattle.history.specs.Table.{row_count}
-use Rattle.positions.proofs.Arrays.{zero_long}
+-- The lines of the registers, which stand at the front of a slice, under their header.
+use mathlib.Core.Path.{sym}
+use Rattle.marker.proofs.Asking.{asked_is}
+use Rattle.printing.proofs.Writing.{text_printed}
+use Rattle.answer_report.proofs.Lines.{text_is}
 use Rattle.answer_report.proofs.text.Goals as goal
 
-pub slice_bounds-text_with-end : goal.slice_bounds-text_with-end
-slice_bounds-text_with-end c = zero_long _ (omega (arith, c.requires.sound.few))
-
-pub slice_bounds-text_with-end-2 : goal.slice_bounds-text_with-end-2
-slice_bounds-text_with-end-2 c = zero_long _ (omega (arith, c.requires.sound.few))
-
-pub slice_bounds-text_with-end-3 : goal.slice_bounds-text_with-end-3
-slice_bounds-text_with-end-3 c = zero_long _ (omega (arith, c.requires.sound.few))
-
-pub text_with-requires : goal.text_with-requires
-text_with-requires c =
-    let e = sym (zero_long (row_count c.args.table.now) c.requires.sound.few) in record { sound = c.requires.sound; asked = c.requires.asked; keys_len = e; grouped_len = e; found_len = e; table_in_bounds = c.requires.sound.few; order_len = refl; table_in_bounds_2 = omega (arith, c.requires.sound.few) }
+pub returns : goal.returns
+returns c = text_printed _ _ _ _ _ (text_is _ _ _ (sym (asked_is c.args.question)) _ _ _ _ (c.registers-m.ensures _ c.group.ensures) c.put_lines.ensures) c.headed.ensures

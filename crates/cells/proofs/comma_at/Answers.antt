@@ -1,12 +1,12 @@
-use lib.ListN.{length}
-use borrow.Author.Tests.{lt-ltb, le-ltb}
+use native.Mathlib.Omega.{arith}
+use Rattle.std.proofs.lemmas.Grind.{common_steps}
 use Rattle.cells.specs.Steps.{comma_at}
 use Rattle.cells.proofs.comma_at.Goals as goal
 
 pub returns-then-at-bytes : goal.returns-then-at-bytes
 unfolding comma_at
-returns-then-at-bytes c = rw (lt-ltb c.args.at (length c.args.bytes.now) c.if-at-bytes.true)
+returns-then-at-bytes c = grind (arith, common_steps)
 
-pub returns : goal.returns
+pub returns-else-at-bytes : goal.returns-else-at-bytes
 unfolding comma_at
-returns c = rw (le-ltb c.args.at (length c.args.bytes.now) c.if-at-bytes.false)
+returns-else-at-bytes c = grind (arith, common_steps)

@@ -1,14 +1,14 @@
-use Rattle.methods.specs.declared.Zone.{Zone}
-use Rattle.methods.specs.Zones.{forward}
+use mathlib.Core.Path.{◌≡◌, refl}
+use mathlib.Core.Bool.{Bool, true, false, not, cond, beq}
 use Rattle.chunking.specs.Chunks.{faces}
-use mathlib.Core.Path.{ap, ◌∙◌}
-use mathlib.Core.Bool.{not}
 use Rattle.chunking.proofs.faces.Goals as goal
 
-pub returns-then-forward : goal.returns-then-forward
-unfolding faces
-returns-then-forward c = c.forward.ensures ∙ rw c.if-forward.true (ap (λ (z : Zone). forward z) c.zone_of-z.ensures)
+as_asked : (a b : Bool) → beq a b ≡ cond b a (not a)
+as_asked true true = refl
+as_asked true false = refl
+as_asked false true = refl
+as_asked false false = refl
 
 pub returns : goal.returns
 unfolding faces
-returns c = ap not c.forward-2.ensures ∙ rw c.if-forward.false (ap (λ (z : Zone). not (forward z)) c.zone_of-z.ensures)
+returns c = rw (c.forward.ensures, c.of.ensures) (as_asked _ _)

@@ -6,11 +6,11 @@ use lib.ListN.{length}
 use Rattle.clock.proofs.Reading.{field_none, field_other, field_some}
 use Rattle.clock.proofs.field.Goals as goal
 
-pub returns-then-text-lt1 : goal.returns-then-text-lt1
-returns-then-text-lt1 c = field_none _ _ (omega arith)
+pub returns-in-len1-up : goal.returns-in-len1-up
+returns-in-len1-up c = c.number_of.ensures ∙ field_some _ _ (length c.args.text.now - 1) (omega arith) c.if-first-begin.true (omega arith)
 
-pub returns-then-text-begin : goal.returns-then-text-begin
-returns-then-text-begin c = field_other _ _ (omega arith) c.if-text-begin.true
+pub returns-in_default : goal.returns-in_default
+returns-in_default c = field_none _ _ c.in_default.len_below
 
-pub returns : goal.returns
-returns c = c.number_of.ensures ∙ field_some _ _ (length c.args.text.now - 1) (omega arith) c.if-text-begin.false (omega arith)
+pub returns-in_default-2 : goal.returns-in_default-2
+returns-in_default-2 c = field_other _ _ (omega arith) c.if-first-begin.false

@@ -1,9 +1,12 @@
-use native.Mathlib.Omega.{arith}
-use Rattle.clock.proofs.Reading.{leads_short, leads_some}
+use borrow.Author.Rules.{rules}
+use Rattle.clock.proofs.Reading.{leads_short, leads_zero, leads_other}
 use Rattle.clock.proofs.leading_zero.Goals as goal
 
-pub returns-then-text-lt2 : goal.returns-then-text-lt2
-returns-then-text-lt2 c = leads_short _ (omega arith)
+pub returns-in-48 : goal.returns-in-48
+returns-in-48 c = search (rules, leads_zero)
 
-pub returns : goal.returns
-returns c = leads_some _ (omega arith)
+pub returns-in_default : goal.returns-in_default
+returns-in_default c = leads_short _ c.in_default.len_below
+
+pub returns-in_default-2 : goal.returns-in_default-2
+returns-in_default-2 c = search (rules, leads_other)

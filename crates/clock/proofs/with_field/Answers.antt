@@ -1,31 +1,29 @@
--- Where the division says that the count has room, the product has it.
+-- Where 64 bits do not hold the sum, the largest stamp doesn't either.
+use mathlib.Core.Path.{◌∙◌, ap}
 use native.Mathlib.Omega.{arith}
-use Rattle.clock.proofs.Reading.{units_held, units_over, no_count, no_field, field_over, stamp_over, stamp_held}
+use Rattle.std.specs.Prelude.{Some}
+use Rattle.clock.proofs.Reading.{no_count, no_field, field_over, stamp_over, stamp_held}
 use Rattle.clock.proofs.with_field.Goals as goal
 
-pub returns-in_default : goal.returns-in_default
-returns-in_default c = no_count _ _ _ c.in_default.is
+pub returns-in_err-v : goal.returns-in_err-v
+returns-in_err-v c = c.from_residual.ensures ∙ no_count _ _ _ c.in_err-v.was
 
-pub returns-in_default-field : goal.returns-in_default-field
-returns-in_default-field c = no_field _ _ _ _ c.in-Is.is c.in_default-field.is
+pub returns-in_err-x : goal.returns-in_err-x
+returns-in_err-x c = c.from_residual-in_err-x.ensures ∙ no_field _ _ _ _ c.in_ok-v.was c.in_err-x.was
 
 pub returns-then-limit-x : goal.returns-then-limit-x
-returns-then-limit-x c = field_over _ _ _ _ c.in-Is.is _ c.in-Is-field.is (omega arith)
+returns-then-limit-x c = field_over _ _ _ _ c.in_ok-v.was _ c.in_ok-x.was c.if-limit-x.true
 
-pub returns-then-limit-v : goal.returns-then-limit-v
-returns-then-limit-v c = stamp_over _ _ _ _ c.in-Is.is _ c.in-Is-field.is (omega arith) (omega (arith, units_over c.args.limit c.in-Is.v (omega arith) (omega arith)))
+pub returns-in_err-units : goal.returns-in_err-units
+returns-in_err-units c = c.from_residual-in_err-units.ensures ∙ stamp_over _ _ _ _ c.in_ok-v.was _ c.in_ok-x.was (omega arith) (omega (arith, c.in_err-units.ensures))
 
-pub overflow_mul-units : goal.overflow_mul-units
-overflow_mul-units c = omega (arith, units_held c.args.limit c.in-Is.v (omega arith) (omega arith))
+pub returns-in_err-sum : goal.returns-in_err-sum
+returns-in_err-sum c = c.from_residual-in_err-sum.ensures ∙ stamp_over _ _ _ _ c.in_ok-v.was _ c.in_ok-x.was (omega arith) (omega (arith, c.in_ok-units.ensures, c.in_err-sum.ensures))
 
-pub overflow_sub-units : goal.overflow_sub-units
-overflow_sub-units c = omega (arith, units_held c.args.limit c.in-Is.v (omega arith) (omega arith))
-
-pub returns-then-units-x : goal.returns-then-units-x
-returns-then-units-x c = stamp_over _ _ _ _ c.in-Is.is _ c.in-Is-field.is (omega arith) (omega arith)
-
-pub overflow_add-result : goal.overflow_add-result
-overflow_add-result c = omega (arith, units_held c.args.limit c.in-Is.v (omega arith) (omega arith))
+pub returns-then-sum-gt-LARGEST_STAMP : goal.returns-then-sum-gt-LARGEST_STAMP
+returns-then-sum-gt-LARGEST_STAMP c = stamp_over _ _ _ _ c.in_ok-v.was _ c.in_ok-x.was (omega arith) (omega (arith, c.in_ok-units.ensures, c.in_ok-sum.ensures))
 
 pub returns : goal.returns
-returns c = stamp_held _ _ _ _ c.in-Is.is _ c.in-Is-field.is (omega arith) (omega (arith, units_held c.args.limit c.in-Is.v (omega arith) (omega arith)))
+returns c =
+    ap Some (omega (arith, c.in_ok-units.ensures, c.in_ok-sum.ensures))
+    ∙ stamp_held _ _ _ _ c.in_ok-v.was _ c.in_ok-x.was (omega arith) (omega (arith, c.in_ok-units.ensures, c.in_ok-sum.ensures))

@@ -10,7 +10,7 @@ use Rattle.clock.proofs.write.Goals as goal
 
 pub returns-then-stamp-gt-LARGEST_STAMP : goal.returns-then-stamp-gt-LARGEST_STAMP
 returns-then-stamp-gt-LARGEST_STAMP c =
-    let whole = written_large _ _ _ (omega arith) c.refused.ensures in record { outcome = whole.0; back = whole.1 }
+    let whole = written_large _ _ _ (omega arith) c.at.ensures in record { outcome = whole.0; back = whole.1 }
 
 pub overflow_add-length : goal.overflow_add-length
 overflow_add-length c = omega (arith, c.decimal_length-length.ensures, (decimal_length (c.args.stamp / 86400000)).1)
@@ -18,7 +18,7 @@ overflow_add-length c = omega (arith, c.decimal_length-length.ensures, (decimal_
 pub returns-then-text-length : goal.returns-then-text-length
 returns-then-text-length c =
     let long = clock_length c.args.stamp in
-    let whole = written_short _ _ _ (omega arith) (omega (arith, long, c.decimal_length-length.ensures)) c.refused-then-text-length.ensures in record { outcome = whole.0; back = whole.1 }
+    let whole = written_short _ _ _ (omega arith) (omega (arith, long, c.decimal_length-length.ensures)) c.at-then-text-length.ensures in record { outcome = whole.0; back = whole.1 }
 
 pub returns : goal.returns
 returns c =

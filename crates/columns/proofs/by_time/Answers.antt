@@ -1,7 +1,6 @@
 use Prim.Native.Nat.{◌-◌}
-use mathlib.Core.Path.{◌≡◌, refl, ap, ◌∙◌}
+use mathlib.Core.Path.{◌≡◌, ap, ◌∙◌}
 use native.Mathlib.Omega.{arith}
-use Rattle.lists.proofs.Tests.{both}
 use Rattle.lists.proofs.Images.{get_d_in}
 use Rattle.methods.specs.Ranks.{starting}
 use Rattle.preparation.specs.Times.{time_of}
@@ -13,29 +12,11 @@ use Rattle.columns.proofs.by_time.Goals as goal
 pub loop-place-init : goal.loop-place-init
 loop-place-init c = rising_none _ _ _
 
-pub overflow_sub-place : goal.overflow_sub-place
-overflow_sub-place c = omega arith
-
-pub offset_bounds-rows-place : goal.offset_bounds-rows-place
-offset_bounds-rows-place c = omega (arith, c.loop-place.invariant.within)
-
-pub bounds-rows-place : goal.bounds-rows-place
-bounds-rows-place c = omega (arith, c.loop-place.invariant.within)
-
 pub at-o-requires : goal.at-o-requires
 at-o-requires c = c.requires.inside _ (get_d_in c.args.rows.now 0 (c.loop-place.place - 1) (omega (arith, c.loop-place.invariant.within)))
 
 pub time-time-requires : goal.time-time-requires
 time-time-requires c = rw c.at-o.ensures (bounded c.requires (get_d_in c.args.rows.now 0 (c.loop-place.place - 1) (omega (arith, c.loop-place.invariant.within)))).0
-
-pub returns-then-first-time : goal.returns-then-first-time
-returns-then-first-time c = λ e. absurd (both e refl)
-
-pub overflow_sub-place-in-loop-place : goal.overflow_sub-place-in-loop-place
-overflow_sub-place-in-loop-place c = omega arith
-
-pub loop-place-smaller : goal.loop-place-smaller
-loop-place-smaller c = omega arith
 
 pub loop-place-preserved : goal.loop-place-preserved
 loop-place-preserved c =

@@ -1,5 +1,4 @@
 -- The walk goes down as long as the times rise (`Rising`).
-use Prim.Native.Nat.{◌-◌}
 use Rattle.history.specs.Table.{op_at}
 use Rattle.methods.specs.Ranks.{starting}
 use Rattle.preparation.specs.Times.{time_of}
@@ -8,6 +7,3 @@ use Rattle.columns.proofs.by_time.Given as goal
 
 abbrev pub invariant-loop-place : goal.invariant-loop-place
 invariant-loop-place l = Rising (λ x. time_of (starting (op_at l.table x))) l.rows l.place l.first
-
-abbrev pub decreases-loop-place : goal.decreases-loop-place
-decreases-loop-place l = l.place

@@ -1,4 +1,3 @@
-use Prim.Native.Nat.{◌-◌}
 use mathlib.Core.Path.{sym, refl, ◌∙◌}
 use native.Mathlib.Omega.{arith}
 use Rattle.lists.specs.Lists.{first}
@@ -9,23 +8,8 @@ use Rattle.conditions.proofs.lowest.Goals as goal
 pub loop-i-init : goal.loop-i-init
 loop-i-init c = scan_none _ _ refl
 
-pub meets-requires : goal.meets-requires
-meets-requires c = record { listed = c.requires; i_in_bounds = omega arith }
-
-pub offset_bounds-rows-i : goal.offset_bounds-rows-i
-offset_bounds-rows-i c = omega arith
-
-pub bounds-rows-i : goal.bounds-rows-i
-bounds-rows-i c = omega arith
-
 pub returns-then-meets : goal.returns-then-meets
 returns-then-meets c = sym (scan_hit _ _ _ _ (omega arith) c.loop-i.invariant (λ r. first_cons_hit _ _ r _ (sym c.meets.ensures ∙ c.if-meets.true)))
-
-pub overflow_add-i : goal.overflow_add-i
-overflow_add-i c = omega arith
-
-pub loop-i-smaller : goal.loop-i-smaller
-loop-i-smaller c = omega arith
 
 pub loop-i-preserved : goal.loop-i-preserved
 loop-i-preserved c = scan_more _ _ _ _ (omega arith) c.loop-i.invariant (λ r. first_cons_miss _ _ r _ (sym c.meets.ensures ∙ c.if-meets.false))

@@ -1,9 +1,8 @@
 -- A row is a write or another; either shows no condition (`quiet_write`, `quiet_other`).
-use mathlib.Core.Path.{refl, sym, ap, ap₂, ◌∙◌}
+use mathlib.Core.Path.{sym, ap, ap₂, ◌∙◌}
 use native.Mathlib.Omega.{arith}
 use borrow.Author.Tests.{leb-true, not-true}
 use Prim.Native.Nat.{ℕ}
-use Rattle.lists.proofs.Tests.{both}
 use Rattle.lists.proofs.Images.{get_d_in}
 use mathlib.Core.Bool.{◌&&◌}
 use lib.Dec.{ltb}
@@ -17,17 +16,8 @@ use Rattle.conditions.proofs.quiet.Goals as goal
 pub at-o-requires : goal.at-o-requires
 at-o-requires c = c.requires.listed.within _ (get_d_in c.args.rows.now 0 c.args.i (omega arith))
 
-pub returns-then-wrong_kind : goal.returns-then-wrong_kind
-returns-then-wrong_kind c = λ q. absurd (both q refl)
-
-pub returns-then-wrong_span : goal.returns-then-wrong_span
-returns-then-wrong_span c = λ q. absurd (both q refl)
-
 pub reopens-requires : goal.reopens-requires
 reopens-requires c = c.requires.listed.within
-
-pub returns-then-reopens : goal.returns-then-reopens
-returns-then-reopens c = λ q. absurd (both q refl)
 
 pub returns-then-is_write : goal.returns-then-is_write
 returns-then-is_write c =
@@ -47,6 +37,3 @@ returns-then-w-rows c =
     (ap (λ o. is_opening o && ltb (first_opening c.args.table.now c.args.rows.now) c.args.i) (sym c.at-o.ensures) ∙ sym c.reopens.ensures ∙ c.if-reopens.false)
     (ap is_write (sym c.at-o.ensures) ∙ sym c.is_write.ensures ∙ c.if-is_write.false) (omega (arith, c.entry-w.ensures))
     (ap₂ precedes (sym c.at-o.ensures) (ap (λ (w : ℕ). row_op c.args.table.now c.args.rows.now w) (sym c.entry-w.ensures) ∙ sym c.at.ensures) ∙ sym c.precedes.ensures ∙ not-true _ q)
-
-pub returns : goal.returns
-returns c = λ q. absurd (both q refl)

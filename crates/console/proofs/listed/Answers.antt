@@ -1,11 +1,12 @@
--- What the reading answers, by its two cases.
-use mathlib.Core.Path.{refl}
-use native.Mathlib.Omega.{arith}
-use Rattle.console.proofs.Reading.{read_counts, listing_read, listing_none}
+-- What the reading answers, and the list as it leaves it.
+use mathlib.Core.Path.{ap, ◌∙◌}
+use Rattle.std.specs.Option.{ok_or}
+use Rattle.console.specs.declared.ListFault.TheVariants.{Unsound}
+use Rattle.console.proofs.Reading.{listed_within, listing_of}
 use Rattle.console.proofs.listed.Goals as goal
 
-pub returns-in-Read : goal.returns-in-Read
-returns-in-Read c = record { within = read_counts c.args.list.now c.list.new.list c.args.bytes.now _ _ c.list.ensures.0 c.in-Read.is c.list.auto.list; answer = listing_read _ _ _ c.list.ensures.0 c.in-Read.is; list = c.list.ensures.1 }
+pub returns-clause-within : goal.returns-clause-within
+returns-clause-within c = listed_within c.args.list.now c.list.new.list c.args.bytes.now _ c.list.ensures.0 c.list.auto.list _ c.ok_or.ensures.value
 
-pub returns-in-NoList : goal.returns-in-NoList
-returns-in-NoList c = record { within = (omega arith, refl); answer = listing_none _ _ c.list.ensures.0 c.in-NoList.is; list = c.list.ensures.1 }
+pub returns-clause-answer : goal.returns-clause-answer
+returns-clause-answer c = c.ok_or.ensures.value ∙ ap (λ r. ok_or r Unsound) c.list.ensures.0 ∙ listing_of _

@@ -11,22 +11,22 @@ pub returns-then-table-ne0 : goal.returns-then-table-ne0
 unfolding first_met write_tests
 returns-then-table-ne0 c =
     let size = length c.args.table.now in
-    rw (ne_eqb (size % 5) 0 c.if-table-ne0.true) c.refused.ensures
+    rw (ne_eqb (size % 5) 0 c.if-table-ne0.true) c.at.ensures
 
 pub returns-then-table-gt-LARGEST_COUNT : goal.returns-then-table-gt-LARGEST_COUNT
 unfolding first_met write_tests
 returns-then-table-gt-LARGEST_COUNT c =
     let size = length c.args.table.now in
-    rw (eq-eqb (size % 5) 0 c.if-table-ne0.false, lt-ltb largest_count (size / 5) c.if-table-gt-LARGEST_COUNT.true) c.refused-then-table-gt-LARGEST_COUNT.ensures
+    rw (eq-eqb (size % 5) 0 c.if-table-ne0.false, lt-ltb largest_count (size / 5) c.if-table-gt-LARGEST_COUNT.true) c.at-then-table-gt-LARGEST_COUNT.ensures
 
-pub returns-in-At : goal.returns-in-At
+pub returns-in-Some : goal.returns-in-Some
 unfolding first_met write_tests
-returns-in-At c =
+returns-in-Some c =
     let size = length c.args.table.now in
-    rw (eq-eqb (size % 5) 0 c.if-table-ne0.false, le-ltb largest_count (size / 5) c.if-table-gt-LARGEST_COUNT.false, ← c.lowest_wrong.ensures, c.in-At.is) c.refused-in-At.ensures
+    rw (eq-eqb (size % 5) 0 c.if-table-ne0.false, le-ltb largest_count (size / 5) c.if-table-gt-LARGEST_COUNT.false, ← c.lowest_wrong.ensures, c.in-Some.is) c.at-in-Some.ensures
 
-pub returns-in-Nothing : goal.returns-in-Nothing
+pub returns-in-None : goal.returns-in-None
 unfolding first_met write_tests
-returns-in-Nothing c =
+returns-in-None c =
     let size = length c.args.table.now in
-    rw (eq-eqb (size % 5) 0 c.if-table-ne0.false, le-ltb largest_count (size / 5) c.if-table-gt-LARGEST_COUNT.false, ← c.lowest_wrong.ensures, c.in-Nothing.is) c.examine_stamps.ensures
+    rw (eq-eqb (size % 5) 0 c.if-table-ne0.false, le-ltb largest_count (size / 5) c.if-table-gt-LARGEST_COUNT.false, ← c.lowest_wrong.ensures, c.in-None.is) c.examine_stamps.ensures

@@ -2,10 +2,10 @@
 use Rattle.history.specs.Answer.{first_met}
 use Rattle.files.proofs.examine_stamps.Goals as goal
 
-pub returns-in-At : goal.returns-in-At
+pub returns-in-Some : goal.returns-in-Some
 unfolding first_met
-returns-in-At c = rw (← c.lowest_stray.ensures, c.in-At.is) c.refused.ensures
+returns-in-Some c = rw (← c.lowest_stray.ensures, c.in-Some.is) c.at.ensures
 
-pub returns-in-Nothing : goal.returns-in-Nothing
+pub returns-in-None : goal.returns-in-None
 unfolding first_met
-returns-in-Nothing c = rw (← c.lowest_stray.ensures, c.in-Nothing.is, ← c.file_length.ensures) c.room_for.ensures
+returns-in-None c = rw (← c.lowest_stray.ensures, c.in-None.is, ← c.file_length.ensures) c.room_for.ensures

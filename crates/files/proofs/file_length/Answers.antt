@@ -1,4 +1,3 @@
-use Prim.Native.Nat.{◌-◌}
 use mathlib.Core.Path.{refl}
 use native.Mathlib.Omega.{arith}
 use Rattle.history.specs.Table.{cell}
@@ -9,29 +8,11 @@ use Rattle.files.proofs.file_length.Goals as goal
 pub loop-i-init : goal.loop-i-init
 loop-i-init c = measure_none _ _
 
-pub overflow_mul-i : goal.overflow_mul-i
-overflow_mul-i c = omega arith
-
-pub overflow_add-i : goal.overflow_add-i
-overflow_add-i c = omega arith
-
-pub offset_bounds-table-i : goal.offset_bounds-table-i
-offset_bounds-table-i c = omega arith
-
-pub bounds-table-i : goal.bounds-table-i
-bounds-table-i c = omega arith
-
 pub overflow_add-total : goal.overflow_add-total
 overflow_add-total c = omega (arith, c.body_length.ensures, most_length (cell c.args.table.now c.loop-i.i 1))
 
 pub overflow_add-total-in-loop-i : goal.overflow_add-total-in-loop-i
 overflow_add-total-in-loop-i c = omega (arith, c.body_length.ensures, most_length (cell c.args.table.now c.loop-i.i 1), c.loop-i.invariant.most)
-
-pub overflow_add-i-in-loop-i : goal.overflow_add-i-in-loop-i
-overflow_add-i-in-loop-i c = omega arith
-
-pub loop-i-smaller : goal.loop-i-smaller
-loop-i-smaller c = omega arith
 
 pub loop-i-preserved : goal.loop-i-preserved
 loop-i-preserved c = measure_more _ _ _ _ c.loop-i.invariant (omega arith) _ c.body_length.ensures

@@ -15,24 +15,24 @@ use Rattle.files.proofs.inspect_record.Goals as goal
 
 pub returns-then-left-eq1 : goal.returns-then-left-eq1
 unfolding first_met record_tests
-returns-then-left-eq1 c = rw (eq-eqb (left c.args.bytes.now c.args.at) 1 c.if-left-eq1.true) c.refused.ensures
+returns-then-left-eq1 c = rw (eq-eqb (left c.args.bytes.now c.args.at) 1 c.if-left-eq1.true) c.at.ensures
 
 pub returns-then-wrong_length : goal.returns-then-wrong_length
 unfolding first_met record_tests
 returns-then-wrong_length c =
     let strange : not (eqb (field c.args.bytes.now c.args.at 2) 34 || eqb (field c.args.bytes.now c.args.at 2) 18) ≡ true = rw (← c.two-size.ensures) (sym c.wrong_length.ensures ∙ c.if-wrong_length.true) in
-    rw (ne_eqb (left c.args.bytes.now c.args.at) 1 c.if-left-eq1.false, strange) c.refused-then-wrong_length.ensures
+    rw (ne_eqb (left c.args.bytes.now c.args.at) 1 c.if-left-eq1.false, strange) c.at-then-wrong_length.ensures
 
 pub overflow_add-size : goal.overflow_add-size
 overflow_add-size c =
-    let known : Bytes c.args.bytes.now = λ i. omega (arith, c.shared_slice_known-1.given i) in
+    let known : Bytes c.args.bytes.now = λ i. omega (arith, c.type_inv.bytes i) in
     omega (arith, c.two-size.ensures, field_below c.args.bytes.now c.args.at 2 known)
 
 pub returns-then-left-size : goal.returns-then-left-size
 unfolding first_met record_tests
 returns-then-left-size c =
     let known : not (eqb (field c.args.bytes.now c.args.at 2) 34 || eqb (field c.args.bytes.now c.args.at 2) 18) ≡ false = rw (← c.two-size.ensures) (sym c.wrong_length.ensures ∙ c.if-wrong_length.false) in
-    rw (ne_eqb (left c.args.bytes.now c.args.at) 1 c.if-left-eq1.false, known, lt-ltb (left c.args.bytes.now c.args.at) (2 + field c.args.bytes.now c.args.at 2) (omega (arith, c.two-size.ensures, c.if-left-size.true))) c.refused-then-left-size.ensures
+    rw (ne_eqb (left c.args.bytes.now c.args.at) 1 c.if-left-eq1.false, known, lt-ltb (left c.args.bytes.now c.args.at) (2 + field c.args.bytes.now c.args.at 2) (omega (arith, c.two-size.ensures, c.if-left-size.true))) c.at-then-left-size.ensures
 
 pub two-requires : goal.two-requires
 two-requires c = omega (arith, c.if-left-size.false, known_body c.two-size.result (sym c.wrong_length.ensures ∙ c.if-wrong_length.false))
@@ -42,14 +42,14 @@ returns-then-mismatched c =
     let known : not (eqb (field c.args.bytes.now c.args.at 2) 34 || eqb (field c.args.bytes.now c.args.at 2) 18) ≡ false = rw (← c.two-size.ensures) (sym c.wrong_length.ensures ∙ c.if-wrong_length.false) in
     let kind : mismatched (field c.args.bytes.now c.args.at 2) (operation (record_from c.args.bytes.now c.args.at) c.args.row) ≡ true =
     kind_test _ _ _ _ _ _ c.two-size.ensures c.two.ensures (sym c.mismatched.ensures ∙ c.if-mismatched.true) in
-    rw (past_length c.args.bytes.now c.args.row c.args.at 0 c.if-left-eq1.false known (omega (arith, c.two-size.ensures, c.if-left-size.false)), kind) c.refused-then-mismatched.ensures
+    rw (past_length c.args.bytes.now c.args.row c.args.at 0 c.if-left-eq1.false known (omega (arith, c.two-size.ensures, c.if-left-size.false)), kind) c.at-then-mismatched.ensures
 
 pub returns-then-row-ge-LARGEST_COUNT : goal.returns-then-row-ge-LARGEST_COUNT
 returns-then-row-ge-LARGEST_COUNT c =
     let known : not (eqb (field c.args.bytes.now c.args.at 2) 34 || eqb (field c.args.bytes.now c.args.at 2) 18) ≡ false = rw (← c.two-size.ensures) (sym c.wrong_length.ensures ∙ c.if-wrong_length.false) in
     let kind : mismatched (field c.args.bytes.now c.args.at 2) (operation (record_from c.args.bytes.now c.args.at) c.args.row) ≡ false =
     kind_test _ _ _ _ _ _ c.two-size.ensures c.two.ensures (sym c.mismatched.ensures ∙ c.if-mismatched.false) in
-    rw (past_length c.args.bytes.now c.args.row c.args.at 0 c.if-left-eq1.false known (omega (arith, c.two-size.ensures, c.if-left-size.false)), kind, le-leb largest_count c.args.row c.if-row-ge-LARGEST_COUNT.true) c.refused-then-row-ge-LARGEST_COUNT.ensures
+    rw (past_length c.args.bytes.now c.args.row c.args.at 0 c.if-left-eq1.false known (omega (arith, c.two-size.ensures, c.if-left-size.false)), kind, le-leb largest_count c.args.row c.if-row-ge-LARGEST_COUNT.true) c.at-then-row-ge-LARGEST_COUNT.ensures
 
 pub returns : goal.returns
 returns c =

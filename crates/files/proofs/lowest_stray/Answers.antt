@@ -1,4 +1,3 @@
-use Prim.Native.Nat.{◌-◌}
 use mathlib.Core.Path.{sym, ap, ◌∙◌, refl}
 use native.Mathlib.Omega.{arith}
 use Rattle.lists.specs.Lists.{first}
@@ -12,17 +11,8 @@ pub loop-i-init : goal.loop-i-init
 unfolding ops_of
 loop-i-init c = scan_none _ _ refl
 
-pub at-requires : goal.at-requires
-at-requires c = omega arith
-
 pub returns-then-strays : goal.returns-then-strays
 returns-then-strays c = sym (scan_hit _ _ _ _ (omega arith) c.loop-i.invariant (λ r. row_hit stray_opening c.args.table.now c.loop-i.i r (ap stray_opening (sym c.at.ensures) ∙ sym c.strays.ensures ∙ c.if-strays.true)))
-
-pub overflow_add-i : goal.overflow_add-i
-overflow_add-i c = omega arith
-
-pub loop-i-smaller : goal.loop-i-smaller
-loop-i-smaller c = omega arith
 
 pub loop-i-preserved : goal.loop-i-preserved
 loop-i-preserved c = scan_more _ _ _ _ (omega arith) c.loop-i.invariant (λ r. row_miss stray_opening c.args.table.now c.loop-i.i r (ap stray_opening (sym c.at.ensures) ∙ sym c.strays.ensures ∙ c.if-strays.false))

@@ -1,5 +1,6 @@
 -- The loop looks at the rows in sequence: the lowest row of the whole is the lowest from here on (`Scan`).
-use Prim.Native.Nat.{◌-◌}
+use Prim.Native.Nat.{◌/◌}
+use lib.ListN.{length}
 use mathlib.Core.List.{map}
 use Rattle.lists.proofs.Scans.{Scan}
 use Rattle.history.specs.Table.{op_at}
@@ -9,7 +10,4 @@ use Rattle.files.specs.Files.{ops_of}
 use Rattle.files.proofs.lowest_stray.Given as goal
 
 abbrev pub invariant-loop-i : goal.invariant-loop-i
-invariant-loop-i l = Scan (lowest_row stray_opening (ops_of l.table)) (λ xs. lowest_row stray_opening (map (op_at l.table) xs)) l.n l.i
-
-abbrev pub decreases-loop-i : goal.decreases-loop-i
-decreases-loop-i l = l.n - l.i
+invariant-loop-i l = Scan (lowest_row stray_opening (ops_of l.table)) (λ xs. lowest_row stray_opening (map (op_at l.table) xs)) (length l.table / 5) l.i

@@ -1,4 +1,3 @@
-use Prim.Native.Nat.{◌-◌}
 use mathlib.Core.Path.{sym, ◌∙◌, refl}
 use native.Mathlib.Omega.{arith}
 use Rattle.lists.specs.Lists.{first}
@@ -12,26 +11,8 @@ pub loop-i-init : goal.loop-i-init
 unfolding ops_of
 loop-i-init c = scan_none _ _ refl
 
-pub overflow_mul-i : goal.overflow_mul-i
-overflow_mul-i c = omega arith
-
-pub overflow_add-i : goal.overflow_add-i
-overflow_add-i c = omega arith
-
-pub offset_bounds-table-i : goal.offset_bounds-table-i
-offset_bounds-table-i c = omega arith
-
-pub bounds-table-i : goal.bounds-table-i
-bounds-table-i c = omega arith
-
 pub returns-then-wrong_kind : goal.returns-then-wrong_kind
 returns-then-wrong_kind c = sym (scan_hit _ _ _ _ (omega arith) c.loop-i.invariant (λ r. row_hit wrong_kind c.args.table.now c.loop-i.i r (sym (row_kind c.args.table.now c.loop-i.i) ∙ sym c.wrong_kind.ensures ∙ c.if-wrong_kind.true)))
-
-pub overflow_add-i-in-loop-i : goal.overflow_add-i-in-loop-i
-overflow_add-i-in-loop-i c = omega arith
-
-pub loop-i-smaller : goal.loop-i-smaller
-loop-i-smaller c = omega arith
 
 pub loop-i-preserved : goal.loop-i-preserved
 loop-i-preserved c = scan_more _ _ _ _ (omega arith) c.loop-i.invariant (λ r. row_miss wrong_kind c.args.table.now c.loop-i.i r (sym (row_kind c.args.table.now c.loop-i.i) ∙ sym c.wrong_kind.ensures ∙ c.if-wrong_kind.false))

@@ -4,7 +4,7 @@ use Rattle.files.proofs.room_for.Goals as goal
 
 pub returns-then-room-needed : goal.returns-then-room-needed
 unfolding first_met
-returns-then-room-needed c = rw (lt-ltb c.args.room c.args.needed c.if-room-needed.true) c.refused.ensures
+returns-then-room-needed c = rw (lt-ltb c.args.room c.args.needed c.if-room-needed.true) c.at.ensures
 
 pub returns : goal.returns
 unfolding first_met

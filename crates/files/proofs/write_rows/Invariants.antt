@@ -1,10 +1,6 @@
 -- The loop puts a record a turn behind those that stand in the bytes already (`Writing`).
-use Prim.Native.Nat.{◌-◌}
 use Rattle.files.proofs.Measuring.{Writing}
 use Rattle.files.proofs.write_rows.Given as goal
 
 abbrev pub invariant-loop-i : goal.invariant-loop-i
 invariant-loop-i l = Writing l.table l.initial.bytes l.i l.at l.bytes
-
-abbrev pub decreases-loop-i : goal.decreases-loop-i
-decreases-loop-i l = l.n - l.i

@@ -1,5 +1,4 @@
 -- The loop fills the slice, a place for each row (`Filled`).
-use Prim.Native.Nat.{◌-◌}
 use Rattle.lists.specs.Lists.{up_to}
 use Rattle.lists.proofs.Filled.{Filled}
 use Rattle.history.specs.Table.{row_count}
@@ -8,6 +7,3 @@ use Rattle.grouping.proofs.column.Given as goal
 
 abbrev pub invariant-loop-i : goal.invariant-loop-i
 invariant-loop-i l = Filled (register_at l.table) (up_to (row_count l.table)) l.initial.keys l.i l.keys
-
-abbrev pub decreases-loop-i : goal.decreases-loop-i
-decreases-loop-i l = l.n - l.i

@@ -1,49 +1,25 @@
-use Prim.Native.Nat.{◌-◌}
 use native.Mathlib.Omega.{arith}
+use borrow.Author.Tests.{eqb-true, eqb-false}
+use lib.ListN.{length}
+use mathlib.Core.Path.{sym, ◌∙◌}
 use Rattle.grouping.proofs.Runs.{kept_none, kept_first, kept_again, kept_more, kept_end}
 use Rattle.grouping.proofs.distinct.Goals as goal
+use Rattle.grouping.proofs.distinct.Goals.{then-next-last, else-next-last}
 
-pub returns-then-n-lt1 : goal.returns-then-n-lt1
-returns-then-n-lt1 c = kept_none _ (omega arith)
-
-pub bounds-list-0 : goal.bounds-list-0
-bounds-list-0 c = omega arith
+pub returns-then-is_empty : goal.returns-then-is_empty
+returns-then-is_empty c = kept_none _ (omega (arith, eqb-true (length c.args.list.now) 0 (sym c.is_empty.ensures ∙ c.if-is_empty.true)))
 
 pub loop-i-init : goal.loop-i-init
-loop-i-init c = kept_first _ (omega arith)
-
-pub offset_bounds-list-i : goal.offset_bounds-list-i
-offset_bounds-list-i c = omega arith
-
-pub bounds-list-i : goal.bounds-list-i
-bounds-list-i c = omega (arith, c.loop-i.invariant.long)
-
-pub overflow_add-i : goal.overflow_add-i
-overflow_add-i c = omega arith
-
-pub offset_bounds-list-m : goal.offset_bounds-list-m
-offset_bounds-list-m c = omega (arith, c.loop-i.invariant.few)
-
-pub bounds-list-m : goal.bounds-list-m
-bounds-list-m c = omega (arith, c.loop-i.invariant.few, c.loop-i.invariant.long)
-
-pub overflow_add-m : goal.overflow_add-m
-overflow_add-m c = omega (arith, c.loop-i.invariant.few)
-
-pub loop-i-smaller-then-next-last : goal.loop-i-smaller-then-next-last
-loop-i-smaller-then-next-last c = omega arith
-
-pub loop-i-preserved-then-next-last : goal.loop-i-preserved-then-next-last
-loop-i-preserved-then-next-last c = kept_more _ _ _ _ _ c.loop-i.invariant (omega arith) c.if-next-last.true
-
-pub loop-i-smaller : goal.loop-i-smaller
-loop-i-smaller c = omega arith
+loop-i-init c = kept_first _ (omega (arith, eqb-false (length c.args.list.now) 0 (sym c.is_empty.ensures ∙ c.if-is_empty.false)))
 
 pub loop-i-preserved : goal.loop-i-preserved
-loop-i-preserved c = kept_again _ _ _ _ _ c.loop-i.invariant (omega arith) (omega arith)
-
-pub shape_of-list : goal.shape_of-list
-shape_of-list c = c.loop-i.invariant.long
+loop-i-preserved c =
+    elim c.if-next-last.branch [
+      | then-next-last w ↦
+          rw (w.list-is, w.last-is, w.m-is) (kept_more _ _ _ _ _ c.loop-i.invariant (omega arith) w.if-next-last.true)
+      | else-next-last w ↦
+          rw (w.list-is, w.last-is, w.m-is) (kept_again _ _ _ _ _ c.loop-i.invariant (omega arith) (omega (arith, w.if-next-last.false)))
+    ]
 
 pub returns : goal.returns
 returns c = kept_end _ _ _ _ _ (omega arith) c.loop-i.invariant

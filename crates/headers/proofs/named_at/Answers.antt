@@ -3,5 +3,4 @@ use Rattle.headers.proofs.named_at.Goals as goal
 
 pub returns : goal.returns
 returns c =
-    rw
-    (c.found_at.ensures, c.same.ensures, c.found_at-2.ensures, c.same-2.ensures, c.found_at-3.ensures, c.same-3.ensures, c.found_at-4.ensures, c.same-4.ensures, c.found_at-5.ensures, c.same-5.ensures)
+    rw (c.found_at.ensures, c.found_at-2.ensures, c.found_at-3.ensures, c.found_at-4.ensures, c.found_at-5.ensures)

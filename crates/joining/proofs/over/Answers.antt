@@ -2,10 +2,10 @@ use borrow.Author.Tests.{le-leb, lt-leb}
 use Rattle.joining.specs.Next.{over_at}
 use Rattle.joining.proofs.over.Goals as goal
 
-pub returns-then-f-a : goal.returns-then-f-a
+pub returns-then-clusters-cursor : goal.returns-then-clusters-cursor
 unfolding over_at
-returns-then-f-a c = rw (le-leb _ _ c.if-f-a.true)
+returns-then-clusters-cursor c = rw (le-leb _ _ c.if-clusters-cursor.true)
 
-pub returns : goal.returns
+pub returns-else-clusters-cursor : goal.returns-else-clusters-cursor
 unfolding over_at
-returns c = rw (lt-leb _ _ c.if-f-a.false)
+returns-else-clusters-cursor c = rw (lt-leb _ _ c.if-clusters-cursor.false)

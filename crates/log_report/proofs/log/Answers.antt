@@ -6,8 +6,8 @@ use Rattle.log_tables.proofs.Room.{table_whole, loaded_as, loaded_small, loaded_
 use Rattle.printing.proofs.Filing.{loading_refused, loading_printed}
 use Rattle.report.proofs.Reporting.{report_whole}
 
-pub returns-then-loaded-ne-FRESH : goal.returns-then-loaded-ne-FRESH
-returns-then-loaded-ne-FRESH c = record { text = loading_refused _ _ _ _ (loaded_as _ _ _ c.load-loaded.ensures.outcome.0 (omega arith)) _ _ c.if-loaded-ne-FRESH.true c.refusal.ensures; said = meant _ }
+pub returns-then-loaded-ne0 : goal.returns-then-loaded-ne0
+returns-then-loaded-ne0 c = record { text = loading_refused _ _ _ _ (loaded_as _ _ _ c.load-loaded.ensures.outcome.0 (omega arith)) _ _ c.if-loaded-ne0.true c.refusal.ensures; said = meant _ }
 
 pub overflow_mul-n : goal.overflow_mul-n
 overflow_mul-n c = omega (arith, loaded_small _ _ _ _ c.load-loaded.ensures.outcome (omega arith))

@@ -1,4 +1,3 @@
-use Prim.Native.Nat.{◌-◌}
 use native.Mathlib.Omega.{arith}
 use Rattle.logs.proofs.Loading.{load_none, load_end, load_hit, load_few, load_more, load_above, load_within}
 use Rattle.logs.proofs.lines.Goals as goal
@@ -6,25 +5,19 @@ use Rattle.logs.proofs.lines.Goals as goal
 pub loop-at-init : goal.loop-at-init
 loop-at-init c = load_none _ _ _ _ _
 
-pub shape_of-table-then-answer-ne-FRESH : goal.shape_of-table-then-answer-ne-FRESH
-shape_of-table-then-answer-ne-FRESH c = c.loop-at.invariant.put.long
-
-pub returns-then-answer-ne-FRESH : goal.returns-then-answer-ne-FRESH
-returns-then-answer-ne-FRESH c =
+pub returns-then-answer-ne0 : goal.returns-then-answer-ne0
+returns-then-answer-ne0 c =
     load_hit _ _ _ _ _ _ _ _
     c.loop-at.invariant
     (omega arith) _ c.walk-line.ensures _
     c.judge-answer.ensures
     c.requires
-    c.if-answer-ne-FRESH.true
+    c.if-answer-ne0.true
 
 pub put_row-requires : goal.put_row-requires
 put_row-requires c =
     omega
-    (arith, load_few _ _ _ _ _ _ _ _ c.loop-at.invariant (omega arith) _ c.walk-line.ensures _ c.judge-answer.ensures c.if-answer-ne-FRESH.false, c.loop-at.invariant.put.long, c.requires)
-
-pub overflow_add-n : goal.overflow_add-n
-overflow_add-n c = omega (arith, c.loop-at.invariant.few)
+    (arith, load_few _ _ _ _ _ _ _ _ c.loop-at.invariant (omega arith) _ c.walk-line.ensures _ c.judge-answer.ensures c.if-answer-ne0.false, c.loop-at.invariant.put.long, c.requires)
 
 pub overflow_add-at : goal.overflow_add-at
 overflow_add-at c =
@@ -43,11 +36,8 @@ loop-at-preserved c =
     (omega arith) _
     c.walk-line.ensures _
     c.judge-answer.ensures
-    c.if-answer-ne-FRESH.false _
+    c.if-answer-ne0.false _
     c.put_row.ensures
-
-pub shape_of-table : goal.shape_of-table
-shape_of-table c = c.loop-at.invariant.put.long
 
 pub returns : goal.returns
 returns c = load_end _ _ _ _ _ _ _ _ c.loop-at.invariant c.requires (omega arith) _ c.passed.ensures

@@ -1,23 +1,8 @@
--- The five stores, one behind the other (`stores_sets`).
+-- The row's numbers are copied over five places of the table.
 use Prim.Native.Nat.{◌*◌}
-use native.Mathlib.Nat.{add-zero}
-use native.Mathlib.Omega.{arith}
-use lib.ListN.{length-set}
-use Rattle.records.proofs.Storing.{stores_sets}
 use Rattle.records.specs.Records.{cells}
+use Rattle.text.proofs.Putting.{put_over}
 use Rattle.logs.proofs.put_row.Goals as goal
 
-pub bounds-table-base-2 : goal.bounds-table-base-2
-bounds-table-base-2 c = simp length-set (omega arith)
-
-pub bounds-table-base-3 : goal.bounds-table-base-3
-bounds-table-base-3 c = simp length-set (omega arith)
-
-pub bounds-table-base-4 : goal.bounds-table-base-4
-bounds-table-base-4 c = simp length-set (omega arith)
-
-pub bounds-table-base-5 : goal.bounds-table-base-5
-bounds-table-base-5 c = simp length-set (omega arith)
-
 pub returns : goal.returns
-returns c = stores_sets (cells c.args.row) c.args.table.now (c.args.n * 5) 0 (c.args.n * 5) (add-zero (c.args.n * 5))
+returns c = rw c.copy_from_slice.ensures.after (put_over (c.args.n * 5) (cells c.args.row) c.args.table.now c.requires)

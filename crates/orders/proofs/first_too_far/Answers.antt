@@ -1,10 +1,8 @@
-use Prim.Native.Nat.{◌-◌}
 use mathlib.Core.Path.{refl, sym, ◌∙◌}
 use native.Mathlib.Omega.{arith}
 use Rattle.lists.specs.Lists.{first}
 use Rattle.lists.proofs.Scans.{scan_none, scan_hit, scan_more, scan_end}
 use Rattle.lists.proofs.Members.{first_cons_hit, first_cons_miss}
-use Rattle.atomicity.specs.Check.{too_far}
 use Rattle.orders.proofs.first_too_far.Goals as goal
 
 pub loop-p-init : goal.loop-p-init
@@ -15,12 +13,6 @@ too_far-requires c = record { ordered = c.requires.ordered; writer_value = c.req
 
 pub returns-then-too_far : goal.returns-then-too_far
 returns-then-too_far c = sym (scan_hit _ _ _ _ (omega arith) c.loop-p.invariant (λ r. first_cons_hit _ _ r _ (sym c.too_far.ensures ∙ c.if-too_far.true)))
-
-pub overflow_add-p : goal.overflow_add-p
-overflow_add-p c = omega arith
-
-pub loop-p-smaller : goal.loop-p-smaller
-loop-p-smaller c = omega arith
 
 pub loop-p-preserved : goal.loop-p-preserved
 loop-p-preserved c = scan_more _ _ _ _ (omega arith) c.loop-p.invariant (λ r. first_cons_miss _ _ r _ (sym c.too_far.ensures ∙ c.if-too_far.false))

@@ -8,6 +8,6 @@ pub returns-then-at-n : goal.returns-then-at-n
 unfolding is_row
 returns-then-at-n c = rw (lt-ltb c.args.row (length c.args.table.now / 5) c.if-at-n.true) c.bears.ensures
 
-pub returns : goal.returns
+pub returns-else-at-n : goal.returns-else-at-n
 unfolding is_row
-returns c = rw (le-ltb c.args.row (length c.args.table.now / 5) c.if-at-n.false)
+returns-else-at-n c = rw (le-ltb c.args.row (length c.args.table.now / 5) c.if-at-n.false)

@@ -1,4 +1,3 @@
-use Prim.Native.Nat.{◌-◌}
 use mathlib.Core.Path.{refl, sym, ◌∙◌}
 use native.Mathlib.Omega.{arith}
 use Rattle.lists.specs.Lists.{first}
@@ -10,23 +9,11 @@ use Rattle.orders.proofs.lowest_late.Goals as goal
 pub loop-p-init : goal.loop-p-init
 loop-p-init c = (scan_none _ _ refl, latest_none _ _)
 
-pub offset_bounds-list-p : goal.offset_bounds-list-p
-offset_bounds-list-p c = omega arith
-
-pub bounds-list-p : goal.bounds-list-p
-bounds-list-p c = omega arith
-
 pub returns-then-precedes_any : goal.returns-then-precedes_any
 returns-then-precedes_any c = sym (scan_hit _ _ _ _ (omega arith) c.loop-p.invariant.0 (λ r. first_cons_hit _ _ r _ (sym (latest_late c.args.table.now c.args.list.now c.loop-p.p c.loop-p.latest c.loop-p.others _ _ c.operation-o.ensures c.precedes_any.ensures c.loop-p.invariant.1) ∙ c.if-precedes_any.true)))
 
-pub overflow_add-p : goal.overflow_add-p
-overflow_add-p c = omega arith
-
-pub loop-p-smaller : goal.loop-p-smaller
-loop-p-smaller c = omega arith
-
 pub loop-p-preserved : goal.loop-p-preserved
-loop-p-preserved c = (scan_more _ _ _ _ (omega arith) c.loop-p.invariant.0 (λ r. first_cons_miss _ _ r _ (sym (latest_late c.args.table.now c.args.list.now c.loop-p.p c.loop-p.latest c.loop-p.others _ _ c.operation-o.ensures c.precedes_any.ensures c.loop-p.invariant.1) ∙ c.if-precedes_any.false)), latest_more c.args.table.now c.args.list.now c.loop-p.p c.loop-p.latest _ c.loop-p.others _ _ c.operation-o.ensures c.larger-latest.ensures c.or_other-others.ensures c.loop-p.invariant.1)
+loop-p-preserved c = (scan_more _ _ _ _ (omega arith) c.loop-p.invariant.0 (λ r. first_cons_miss _ _ r _ (sym (latest_late c.args.table.now c.args.list.now c.loop-p.p c.loop-p.latest c.loop-p.others _ _ c.operation-o.ensures c.precedes_any.ensures c.loop-p.invariant.1) ∙ c.if-precedes_any.false)), latest_more c.args.table.now c.args.list.now c.loop-p.p c.loop-p.latest _ c.loop-p.others _ _ c.operation-o.ensures c.max-latest.ensures c.or_other-others.ensures c.loop-p.invariant.1)
 
 pub returns : goal.returns
 unfolding first

@@ -1,5 +1,4 @@
 -- The loop looks at the positions in sequence (`Scan`), with what is kept of those before (`Latest`).
-use Prim.Native.Nat.{◌-◌}
 use lib.ListN.{length}
 use Rattle.lists.specs.Lists.{first}
 use Rattle.lists.proofs.Scans.{Scan}
@@ -9,6 +8,3 @@ use Rattle.orders.proofs.lowest_late.Given as goal
 
 abbrev pub invariant-loop-p : goal.invariant-loop-p
 invariant-loop-p l = Scan (lowest_at (late l.table l.list) l.list) (first (λ q. q) (late l.table l.list)) (length l.list) l.p × Latest l.table l.list l.p l.latest l.others
-
-abbrev pub decreases-loop-p : goal.decreases-loop-p
-decreases-loop-p l = length l.list - l.p

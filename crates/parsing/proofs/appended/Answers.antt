@@ -1,26 +1,19 @@
-use Prim.Native.Nat.{◌+◌, ◌-◌, ◌*◌, ◌^◌}
+use Prim.Native.Nat.{◌+◌, ◌-◌, ◌*◌}
+use mathlib.Core.Path.{sym, ap, ◌∙◌}
 use native.Mathlib.Omega.{arith}
-use borrow.Author.Tests.{lt-ltb, le-ltb, le-leb, lt-leb}
-use Rattle.lists.specs.Lists.{all}
-use Rattle.parsing.specs.Numbers.{is_digit, worth, held, says}
+use Rattle.parsing.specs.Numbers.{held}
+use Rattle.parsing.proofs.Values.{says_out, says_in, held_large, held_iff}
 use Rattle.parsing.proofs.appended.Goals as goal
 
-pub returns-then-byte-lt48 : goal.returns-then-byte-lt48
-unfolding says all is_digit
-returns-then-byte-lt48 c = rw (lt-ltb c.args.byte 48 c.if-byte-lt48.true)
+pub returns-then-not-is_ascii_digit : goal.returns-then-not-is_ascii_digit
+returns-then-not-is_ascii_digit c = sym (says_out c.args.value c.args.byte c.if-not-is_ascii_digit.ensures.cases)
 
-pub returns-then-byte-gt57 : goal.returns-then-byte-gt57
-unfolding says all is_digit
-returns-then-byte-gt57 c = rw (le-ltb c.args.byte 48 (omega arith), lt-leb c.args.byte 57 (omega arith))
-
-pub returns-then-value-gt1844674407370955161 : goal.returns-then-value-gt1844674407370955161
-unfolding says all is_digit worth held
-returns-then-value-gt1844674407370955161 c = rw (le-ltb c.args.byte 48 (omega arith), le-leb c.args.byte 57 (omega arith), le-ltb (c.args.value * 10 + (c.args.byte - 48)) (2 ^ 64) (omega arith))
-
-pub returns-then-digit-tens : goal.returns-then-digit-tens
-unfolding says all is_digit worth held
-returns-then-digit-tens c = rw (le-ltb c.args.byte 48 (omega arith), le-leb c.args.byte 57 (omega arith), le-ltb (c.args.value * 10 + (c.args.byte - 48)) (2 ^ 64) (omega arith))
+pub returns-in_err-tens : goal.returns-in_err-tens
+returns-in_err-tens c =
+    let digit = c.if-not-is_ascii_digit.ensures.cases in
+    c.from_residual.ensures ∙ sym (says_in c.args.value c.args.byte digit.0 digit.1 ∙ held_large (c.args.value * 10 + (c.args.byte - 48)) (omega (arith, c.in_err-tens.ensures)))
 
 pub returns : goal.returns
-unfolding says all is_digit worth held
-returns c = rw (le-ltb c.args.byte 48 (omega arith), le-leb c.args.byte 57 (omega arith), lt-ltb (c.args.value * 10 + (c.args.byte - 48)) (2 ^ 64) (omega arith))
+returns c =
+    let digit = c.if-not-is_ascii_digit.ensures.cases in
+    held_iff _ _ c.checked_add.ensures ∙ sym (says_in c.args.value c.args.byte digit.0 digit.1 ∙ ap held (omega (arith, c.in_ok-tens.ensures, c.from.ensures)))

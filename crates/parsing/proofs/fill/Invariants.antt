@@ -7,6 +7,3 @@ use Rattle.parsing.proofs.fill.Given as goal
 
 abbrev pub invariant-loop-n : goal.invariant-loop-n
 invariant-loop-n l = Putting l.initial.list 0 (leading (length l.initial.list) l.text) l.list l.n (leading (length l.initial.list - l.n) (drop l.at l.text))
-
-abbrev pub decreases-loop-n : goal.decreases-loop-n
-decreases-loop-n l = length l.initial.list - l.n

@@ -1,29 +1,21 @@
-use Prim.Native.Nat.{◌-◌}
 use mathlib.Core.Path.{sym, ◌∙◌}
 use native.Mathlib.Omega.{arith}
+use lib.ListN.{length}
+use Rattle.std.proofs.lemmas.Bool.{eqb-true, eqb-false}
 use Rattle.parsing.proofs.Values.{number_empty, read_none, read_more, read_other, read_end}
 use Rattle.parsing.proofs.number_of.Goals as goal
 
-pub returns-then-text-lt1 : goal.returns-then-text-lt1
-returns-then-text-lt1 c = sym (number_empty _ c.if-text-lt1.true)
+pub returns-then-is_empty : goal.returns-then-is_empty
+returns-then-is_empty c = sym (number_empty _ (omega (arith, eqb-true (length c.args.text.now) 0 (sym (c.if-is_empty.ensures)))))
 
-pub loop-i-init : goal.loop-i-init
-loop-i-init c = read_none _ (omega arith)
+pub loop-byte-init : goal.loop-byte-init
+loop-byte-init c = read_none _ (omega (arith, eqb-false (length c.args.text.now) 0 (sym (c.if-is_empty.ensures))))
 
-pub bounds-text-i : goal.bounds-text-i
-bounds-text-i c = omega arith
+pub returns-in_err-value : goal.returns-in_err-value
+returns-in_err-value c = c.from_residual.ensures ∙ sym (read_other _ c.loop-byte.invariant (omega arith) (sym (c.in_err-value.ensures)))
 
-pub overflow_add-i : goal.overflow_add-i
-overflow_add-i c = omega arith
-
-pub returns-in_default : goal.returns-in_default
-returns-in_default c = sym (read_other _ c.loop-i.invariant (omega arith) (sym c.appended-next.ensures ∙ c.in_default.is))
-
-pub loop-i-smaller : goal.loop-i-smaller
-loop-i-smaller c = omega arith
-
-pub loop-i-preserved : goal.loop-i-preserved
-loop-i-preserved c = read_more _ c.loop-i.invariant _ (omega arith) (sym c.appended-next.ensures ∙ c.in-Is.is)
+pub loop-byte-preserved : goal.loop-byte-preserved
+loop-byte-preserved c = read_more _ c.loop-byte.invariant _ (omega arith) (sym (c.in_ok-value.ensures))
 
 pub returns : goal.returns
-returns c = sym (read_end _ c.loop-i.invariant (omega arith))
+returns c = sym (read_end _ c.loop-byte.invariant (omega arith))

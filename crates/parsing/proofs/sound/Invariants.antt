@@ -5,8 +5,5 @@ use lib.ListN.{drop}
 use Rattle.parsing.specs.Numbers.{sound}
 use Rattle.parsing.proofs.sound.Given as goal
 
-abbrev pub invariant-loop-n : goal.invariant-loop-n
-invariant-loop-n l = sound l.most l.text ≡ sound (l.most - l.n) (drop l.at l.text)
-
-abbrev pub decreases-loop-n : goal.decreases-loop-n
-decreases-loop-n l = l.most - l.n
+abbrev pub invariant-loop : goal.invariant-loop
+invariant-loop l = sound l.most l.text ≡ sound (l.most - l.counter) (drop l.at l.text)

@@ -1,4 +1,3 @@
--- `placing::ask` meets its contract. By the definition.
 use Rattle.lists.proofs.Decide.{decide}
 use Rattle.placing.specs.Rules.{ask}
 use Rattle.placing.proofs.ask.Goals as goal

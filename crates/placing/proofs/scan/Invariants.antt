@@ -1,10 +1,6 @@
-use Prim.Native.Nat.{◌-◌}
-use Rattle.placing.specs.States.{state_of}
+use Rattle.placing.specs.States.{state_of, plus_one}
 use Rattle.placing.proofs.Passing.{Passing}
 use Rattle.placing.proofs.scan.Given as goal
 
-abbrev pub invariant-loop-k : goal.invariant-loop-k
-invariant-loop-k l = Passing l.start l.writer l.w l.bound (state_of l.initial.placed l.initial.order l.at l.top) (state_of l.placed l.order l.a l.k) l.asked
-
-abbrev pub decreases-loop-k : goal.decreases-loop-k
-decreases-loop-k l = l.k
+abbrev pub invariant-loop-i : goal.invariant-loop-i
+invariant-loop-i l = Passing l.columns.start.now l.columns.chains.writer.now l.w l.bound (state_of l.initial.placed l.initial.order l.initial.at l.initial.i) (state_of l.placed l.order l.at l.i) (plus_one l.asked)

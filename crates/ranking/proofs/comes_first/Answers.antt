@@ -6,6 +6,6 @@ pub returns-then-i-starts : goal.returns-then-i-starts
 unfolding comes_first
 returns-then-i-starts c = rw (lt-ltb _ _ c.if-i-starts.true)
 
-pub returns : goal.returns
+pub returns-else-i-starts : goal.returns-else-i-starts
 unfolding comes_first
-returns c = rw (le-ltb _ _ c.if-i-starts.false)
+returns-else-i-starts c = rw (le-ltb _ _ c.if-i-starts.false)

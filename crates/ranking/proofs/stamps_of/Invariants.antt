@@ -1,6 +1,4 @@
 -- The loop fills two columns (`Filled`).
-use Prim.Native.Nat.{◌-◌}
-use lib.ListN.{length}
 use Rattle.lists.proofs.Filled.{Filled}
 use Rattle.history.specs.Table.{op_at}
 use Rattle.methods.specs.Ranks.{starting, finishing}
@@ -9,6 +7,3 @@ use Rattle.ranking.proofs.stamps_of.Given as goal
 
 abbrev pub invariant-loop-i : goal.invariant-loop-i
 invariant-loop-i l = Filled (λ x. time_of (starting (op_at l.table x))) l.rows l.initial.starts l.i l.starts × Filled (λ x. time_of (finishing (op_at l.table x))) l.rows l.initial.finishes l.i l.finishes
-
-abbrev pub decreases-loop-i : goal.decreases-loop-i
-decreases-loop-i l = length l.rows - l.i

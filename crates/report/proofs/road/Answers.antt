@@ -1,22 +1,16 @@
+-- The report of a file's table is not refused.
+use mathlib.Core.Path.{◌≡◌}
+use Rattle.std.proofs.Common.{rules}
 use Rattle.summary.proofs.Telling.{meant}
-use Rattle.report.proofs.road.Goals as goal
--- The file is refused, or its table is reported.
-use native.Mathlib.Omega.{arith}
-use Rattle.files.proofs.Loading.{table_whole, loaded_as, loaded_small, loaded_few, loaded_front, loaded_long, loaded_in}
-use Rattle.printing.proofs.Filing.{loading_refused, loading_printed}
+use Rattle.report.specs.Report.{report_of, report_answer, report_after}
 use Rattle.report.proofs.Reporting.{report_whole}
+use Rattle.report.proofs.road.Goals as goal
 
-pub returns-then-loaded-ne0 : goal.returns-then-loaded-ne0
-returns-then-loaded-ne0 c = record { text = loading_refused _ _ _ _ (loaded_as _ _ _ c.read-loaded.ensures.outcome.0 (omega arith)) _ _ c.if-loaded-ne0.true c.refusal.ensures; said = meant _ }
+pub returns-clause-text : goal.returns-clause-text
+returns-clause-text c =
+    c.of_file.ensures report_of (λ t o r p table each.
+    let w : (r ≡ report_answer t.now o.now) × (p.now ≡ report_after t.now o.now) = search rules in
+    report_whole _ _ table.whole table.few _ _ w)
 
-pub overflow_mul-n : goal.overflow_mul-n
-overflow_mul-n c = omega (arith, loaded_small _ _ _ _ c.read-loaded.ensures.outcome (omega arith))
-
-pub slice_bounds-table-end : goal.slice_bounds-table-end
-slice_bounds-table-end c = loaded_in _ _ _ _ c.read-loaded.ensures.outcome (omega arith)
-
-pub slice_bounds-report-end : goal.slice_bounds-report-end
-slice_bounds-report-end c = loaded_long _ _ _ _ c.read-loaded.ensures.outcome (omega arith)
-
-pub returns : goal.returns
-returns c = record { text = loading_printed _ _ _ _ (loaded_as _ _ _ c.read-loaded.ensures.outcome.0 (omega arith)) _ _ (omega arith) (report_whole _ _ (table_whole c.args.bytes.now) (loaded_few _ _ _ _ c.read-loaded.ensures.outcome (omega arith)) _ _ (rw (loaded_front _ _ _ _ c.read-loaded.ensures.outcome (omega arith)) at c.report.ensures.outcome)); said = meant _ }
+pub returns-clause-said : goal.returns-clause-said
+returns-clause-said c = meant _

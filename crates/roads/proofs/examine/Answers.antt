@@ -2,10 +2,11 @@ use Rattle.roads.proofs.Examining.{rows_rising, passed_fit, examined_refused, ex
 use Rattle.roads.proofs.examine.Goals as goal
 
 pub examine_listed-met-requires : goal.examine_listed-met-requires
-examine_listed-met-requires c = rows_rising _ c.requires.sound c.requires.by_index.0 _ c.requires.by_index.1
+examine_listed-met-requires c = rows_rising _ c.requires.sound _ _ c.requires.own.1
 
-pub sort_rows-requires : goal.sort_rows-requires
-sort_rows-requires c = record { fit = passed_fit _ c.requires.sound c.requires.by_index.0 _ c.requires.by_index.1 _ c.examine_listed-met.ensures c.if-met-eq0.true; table_in_bounds = c.requires.table_in_bounds }
+pub sort_rows-requires-clause-fit : goal.sort_rows-requires-clause-fit
+sort_rows-requires-clause-fit c =
+    passed_fit _ c.requires.sound _ _ c.requires.own.1 _ c.examine_listed-met.ensures c.if-met-eq0.true
 
 pub returns-then-met-eq0 : goal.returns-then-met-eq0
 returns-then-met-eq0 c = λ register e. examined_passed _ c.requires.sound register _ e _ c.examine_listed-met.ensures _ c.sort_rows.ensures

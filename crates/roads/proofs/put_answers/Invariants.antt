@@ -1,12 +1,8 @@
--- The fields of the registers passed stand at the front (`Writing`).
-use Prim.Native.Nat.{◌-◌}
-use lib.ListN.{length}
-use Rattle.grouping.proofs.Entries.{Writing}
+-- The fields of the registers passed stand at the front (`Entered`).
+use Rattle.lists.proofs.Entries.{Entered}
+use Rattle.marker.specs.Questions.{number}
 use Rattle.roads.specs.Answers.{fields}
 use Rattle.roads.proofs.put_answers.Given as goal
 
 abbrev pub invariant-loop-i : goal.invariant-loop-i
-invariant-loop-i l = Writing (fields l.table l.question l.allowance) l.registers l.initial.keys l.initial.rows l.initial.order l.initial.list l.i l.keys l.rows l.order l.list
-
-abbrev pub decreases-loop-i : goal.decreases-loop-i
-decreases-loop-i l = length l.registers - l.i
+invariant-loop-i l = Entered (fields l.road.table.now (number l.question) l.allowance) l.registers l.initial.list l.i l.list

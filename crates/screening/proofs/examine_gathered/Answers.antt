@@ -1,11 +1,5 @@
-use Rattle.screening.proofs.Loops.{gathered_listed, gathered_answer, gathered_inside, gathered_size, gathered_front}
+use Rattle.screening.proofs.Loops.{gathered_listed, gathered_answer, gathered_front}
 use Rattle.screening.proofs.examine_gathered.Goals as goal
-
-pub slice_bounds-examine_listed-end : goal.slice_bounds-examine_listed-end
-slice_bounds-examine_listed-end c = gathered_inside _ _ _ _ c.requires.table_bound c.gather-n.ensures
-
-pub slice_bounds-examine_listed-end-2 : goal.slice_bounds-examine_listed-end-2
-slice_bounds-examine_listed-end-2 c = gathered_size _ _ _ _ c.requires.table_bound c.gather-n.ensures
 
 pub examine_listed-requires : goal.examine_listed-requires
 examine_listed-requires c = gathered_listed _ _ _ _ c.requires.table_bound c.gather-n.ensures

@@ -1,6 +1,6 @@
 -- The head's number has the length and the kind in it, since the kind is below 65,536 (`head_extent`).
 use Prim.Native.Nat.{◌+◌}
-use mathlib.Core.Path.{◌∙◌}
+use mathlib.Core.Path.{sym, ◌∙◌}
 use native.Mathlib.Omega.{arith}
 use Rattle.history.specs.Table.{operation}
 use Rattle.records.specs.Records.{Bytes, field, record_from}
@@ -9,20 +9,28 @@ use Rattle.selection.proofs.Picking.{head_extent, extent_short, extent_cut, exte
 use Rattle.selection.proofs.extent.Goals as goal
 
 pub returns-then-left-lt-SHORT_RECORD : goal.returns-then-left-lt-SHORT_RECORD
-returns-then-left-lt-SHORT_RECORD c = extent_short _ _ c.if-left-lt-SHORT_RECORD.true
+returns-then-left-lt-SHORT_RECORD c = sym (extent_short _ _ c.if-left-lt-SHORT_RECORD.true)
 
-pub returns-then-left-size : goal.returns-then-left-size
+pub returns-in_err-size : goal.returns-in_err-size
 unfolding record_from
-returns-then-left-size c =
-    let known : Bytes c.args.bytes.now = λ i. omega (arith, c.shared_slice_known-1.given i) in
+returns-in_err-size c =
+    let known : Bytes c.args.bytes.now = λ i. omega (arith, c.type_inv.bytes i) in
     let small = field_below c.args.bytes.now (c.args.at + 2) 2 known in
-    let size = c.extent_by-size.ensures ∙ head_extent (field c.args.bytes.now c.args.at 2) (operation (record_from c.args.bytes.now c.args.at) 0) _ c.head.ensures small in
-    extent_cut c.args.bytes.now c.args.at _ size c.if-left-size.true
+    let size = sym c.in_err-size.ensures ∙ head_extent (field c.args.bytes.now c.args.at 2) (operation (record_from c.args.bytes.now c.args.at) 0) _ c.head.ensures small in
+    rw c.from_residual.ensures (sym (extent_whole c.args.bytes.now c.args.at 0 size (omega arith)))
 
-pub returns : goal.returns
+pub returns-then-size-left : goal.returns-then-size-left
 unfolding record_from
-returns c =
-    let known : Bytes c.args.bytes.now = λ i. omega (arith, c.shared_slice_known-1.given i) in
+returns-then-size-left c =
+    let known : Bytes c.args.bytes.now = λ i. omega (arith, c.type_inv.bytes i) in
     let small = field_below c.args.bytes.now (c.args.at + 2) 2 known in
-    let size = c.extent_by-size.ensures ∙ head_extent (field c.args.bytes.now c.args.at 2) (operation (record_from c.args.bytes.now c.args.at) 0) _ c.head.ensures small in
-    extent_whole c.args.bytes.now c.args.at _ size c.if-left-size.false
+    let size = c.in_ok-size.ensures.0 ∙ head_extent (field c.args.bytes.now c.args.at 2) (operation (record_from c.args.bytes.now c.args.at) 0) _ c.head.ensures small in
+    (extent_whole c.args.bytes.now c.args.at _ size c.if-size-left.true, c.in_ok-size.ensures.1)
+
+pub returns-else-size-left : goal.returns-else-size-left
+unfolding record_from
+returns-else-size-left c =
+    let known : Bytes c.args.bytes.now = λ i. omega (arith, c.type_inv.bytes i) in
+    let small = field_below c.args.bytes.now (c.args.at + 2) 2 known in
+    let size = c.in_ok-size.ensures.0 ∙ head_extent (field c.args.bytes.now c.args.at 2) (operation (record_from c.args.bytes.now c.args.at) 0) _ c.head.ensures small in
+    sym (extent_cut c.args.bytes.now c.args.at _ size c.if-size-left.false)

@@ -6,6 +6,6 @@ pub returns-then-head-eq-WRITE_HEAD : goal.returns-then-head-eq-WRITE_HEAD
 unfolding plain
 returns-then-head-eq-WRITE_HEAD c = search decide
 
-pub returns : goal.returns
+pub returns-else-head-eq-WRITE_HEAD : goal.returns-else-head-eq-WRITE_HEAD
 unfolding plain
-returns c = search decide
+returns-else-head-eq-WRITE_HEAD c = search decide

@@ -1,23 +1,20 @@
 -- The marking call leaves its list behind the question's number.
-use Prim.Native.Nat.{ℕ}
-use mathlib.Core.Path.{ap, ◌∙◌}
-use native.Mathlib.Omega.{arith}
-use lib.ListN.{length, length-set, length-replicate}
-use Rattle.lines.specs.Lines.{places}
+use Prim.Native.Nat.{◌+◌}
+use mathlib.Core.Path.{◌≡◌, refl}
+use denote.Enum.Declared.{tag_of}
+use Rattle.marker.specs.contracts.Question.{the_type}
+use Rattle.marker.specs.declared.Question.{Question}
+use Rattle.marker.specs.declared.Question.TheVariants.{Zones, Lbt, Fzf}
+use Rattle.marker.specs.Questions.{number}
 use Rattle.sheet.proofs.Making.{made}
 use Rattle.sheet.proofs.ask.Goals as goal
 
-pub bounds-page-0 : goal.bounds-page-0
-bounds-page-0 c = omega (arith, ap length c.requires, length-replicate {A = ℕ} places 0)
-
-pub slice_bounds-mark-count : goal.slice_bounds-mark-count
-slice_bounds-mark-count c = simp length-set (omega (arith, ap length c.requires, length-replicate {A = ℕ} places 0))
-
-pub slice_bounds-mark-start : goal.slice_bounds-mark-start
-slice_bounds-mark-start c = simp length-set (omega (arith, ap length c.requires, length-replicate {A = ℕ} places 0))
-
-pub shape_of-page : goal.shape_of-page
-shape_of-page c = c.page-1.given.1 ∙ simp length-set
+is_number : (q : Question) → tag_of the_type q + 1 ≡ number q
+is_number Zones = refl
+is_number Lbt = refl
+is_number Fzf = refl
 
 pub returns : goal.returns
-returns c = made c.args.table.now c.args.register c.args.question c.args.allowance c.args.page.now c.requires _ _ c.mark.ensures.outcome
+returns c =
+    let e = is_number c.args.question in
+    rw e (made c.args.table.now c.args.register (number c.args.question) c.args.allowance c.args.page.now c.requires _ _ (rw e at c.mark.ensures.outcome))

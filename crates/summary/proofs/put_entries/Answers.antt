@@ -1,45 +1,14 @@
-use Prim.Native.Nat.{◌-◌}
+use mathlib.Core.Path.{refl}
 use native.Mathlib.Omega.{arith}
-use Rattle.lists.proofs.Entries.{entered_long}
-use Rattle.grouping.proofs.Entries.{writing_none, writing_room, writing_more, writing_end}
+use Rattle.lists.proofs.Entries.{entered_none, entered_more, entered_end}
 use Rattle.summary.proofs.Entries.{entry_long}
 use Rattle.summary.proofs.put_entries.Goals as goal
 
 pub loop-i-init : goal.loop-i-init
-loop-i-init c = writing_none _ _ _ _ _ _
-
-pub offset_bounds-registers-i : goal.offset_bounds-registers-i
-offset_bounds-registers-i c = omega arith
-
-pub bounds-registers-i : goal.bounds-registers-i
-bounds-registers-i c = omega arith
-
-pub overflow_mul-i : goal.overflow_mul-i
-overflow_mul-i c = omega arith
-
-pub put_own-requires : goal.put_own-requires
-put_own-requires c = record { sound = c.requires.sound; grouped_value = c.requires.grouped_value; table_in_bounds = omega (arith, c.requires.table_in_bounds, c.loop-i.invariant.keys_long); table_in_bounds_2 = omega (arith, c.requires.table_in_bounds_2, c.loop-i.invariant.rows_long); order_len = omega (arith, c.requires.order_len, c.loop-i.invariant.order_long); at_in_bounds = writing_room _ _ _ _ _ _ 5 (entry_long _) _ _ _ _ _ c.loop-i.invariant c.requires.registers_in_bounds (omega arith) }
-
-pub overflow_add-i : goal.overflow_add-i
-overflow_add-i c = omega arith
-
-pub loop-i-smaller : goal.loop-i-smaller
-loop-i-smaller c = omega arith
+loop-i-init c = entered_none _ _ _
 
 pub loop-i-preserved : goal.loop-i-preserved
-loop-i-preserved c = writing_more _ _ _ _ _ _ 5 (entry_long _) _ _ _ _ _ c.loop-i.invariant (omega arith) _ _ _ _ c.put_own.auto.keys c.put_own.auto.rows c.put_own.auto.order c.put_own.ensures
-
-pub shape_of-keys : goal.shape_of-keys
-shape_of-keys c = c.loop-i.invariant.keys_long
-
-pub shape_of-rows : goal.shape_of-rows
-shape_of-rows c = c.loop-i.invariant.rows_long
-
-pub shape_of-order : goal.shape_of-order
-shape_of-order c = c.loop-i.invariant.order_long
-
-pub shape_of-list : goal.shape_of-list
-shape_of-list c = entered_long _ _ _ _ _ c.loop-i.invariant.entered
+loop-i-preserved c = entered_more _ _ _ 5 (entry_long _) _ _ _ _ (omega arith) refl c.put_entry.ensures c.loop-i.invariant
 
 pub returns : goal.returns
-returns c = writing_end _ _ _ _ _ _ 5 (entry_long _) _ _ _ _ _ c.loop-i.invariant (omega arith) c.requires.registers_in_bounds
+returns c = entered_end _ _ _ 5 (entry_long _) _ _ (omega arith) c.requires c.loop-i.invariant

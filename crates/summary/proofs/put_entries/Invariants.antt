@@ -1,12 +1,7 @@
--- The entries of the registers passed stand at the front (`Writing`).
-use Prim.Native.Nat.{◌-◌}
-use lib.ListN.{length}
-use Rattle.grouping.proofs.Entries.{Writing}
+-- The entries of the registers passed stand at the front (`Entered`).
+use Rattle.lists.proofs.Entries.{Entered}
 use Rattle.summary.specs.Summary.{entry}
 use Rattle.summary.proofs.put_entries.Given as goal
 
 abbrev pub invariant-loop-i : goal.invariant-loop-i
-invariant-loop-i l = Writing (entry l.table) l.registers l.initial.keys l.initial.rows l.initial.order l.initial.list l.i l.keys l.rows l.order l.list
-
-abbrev pub decreases-loop-i : goal.decreases-loop-i
-decreases-loop-i l = length l.registers - l.i
+invariant-loop-i l = Entered (entry l.road.table.now) l.registers l.initial.list l.i l.list

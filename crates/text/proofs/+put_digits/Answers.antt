@@ -2,8 +2,7 @@ use Prim.Native.Nat.{◌-◌, ◌/◌}
 use mathlib.Core.Path.{◌≡◌, ap}
 use mathlib.Core.List.{[], ◌∷◌, ◌++◌}
 use native.Mathlib.Omega.{arith}
-use lib.ListN.{length, length-set}
-use borrow.Author.Rules.{rules}
+use lib.ListN.{length}
 use Rattle.lists.proofs.Stores.{sets_append}
 use Rattle.text.specs.Decimal.{digits, digit}
 use Rattle.text.proofs.Digits.{digits_none, digits_last, digits_more, digits_more_length}
@@ -14,20 +13,8 @@ returns-then-most-lt1 t c =
     let e : digits c.args.most c.args.n ≡ [] = digits_none c.args.most c.args.n (omega arith) in
     (omega (arith, ap length e), rw e)
 
-pub overflow_add-last : goal.overflow_add-last
-overflow_add-last t c = omega arith
-
-pub overflow_cast-last : goal.overflow_cast-last
-overflow_cast-last t c = omega arith
-
 pub bounds-out-at : goal.bounds-out-at
 bounds-out-at t c = omega (arith, ap length (digits_last c.args.most c.args.n (omega arith) (omega arith)))
-
-pub overflow_add-result : goal.overflow_add-result
-overflow_add-result t c = omega (arith, ap length (digits_last c.args.most c.args.n (omega arith) (omega arith)))
-
-pub shape_of-out-then-n-lt10 : goal.shape_of-out-then-n-lt10
-shape_of-out-then-n-lt10 t c = simp length-set
 
 pub returns-then-n-lt10 : goal.returns-then-n-lt10
 returns-then-n-lt10 t c =
@@ -42,9 +29,6 @@ bounds-out-next t c = omega (arith, digits_more_length c.args.most c.args.n (ome
 
 pub overflow_add-result-2 : goal.overflow_add-result-2
 overflow_add-result-2 t c = omega (arith, digits_more_length c.args.most c.args.n (omega arith) (omega arith))
-
-pub shape_of-out : goal.shape_of-out
-shape_of-out t c = simp length-set (search rules)
 
 pub returns : goal.returns
 returns t c =

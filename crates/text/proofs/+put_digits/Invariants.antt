@@ -1,5 +1,4 @@
 -- The digits before the last are written by the same function: the number of digits that are allowed falls.
-use Prim.Native.Nat.{◌-◌}
 use Rattle.text.proofs.+put_digits.Given as goal
 
 abbrev pub decreases-put_digits : goal.decreases-put_digits

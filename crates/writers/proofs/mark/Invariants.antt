@@ -1,10 +1,6 @@
 -- From the last row down, each write leaves its place at the first holder of its value (`Marking`).
-use Prim.Native.Nat.{◌-◌}
 use Rattle.writers.proofs.Marking.{Marking}
 use Rattle.writers.proofs.mark.Given as goal
 
 abbrev pub invariant-loop-i : goal.invariant-loop-i
 invariant-loop-i l = Marking l.table l.rows l.firsts l.i l.slots
-
-abbrev pub decreases-loop-i : goal.decreases-loop-i
-decreases-loop-i l = l.i

@@ -1,40 +1,12 @@
-use Prim.Native.Nat.{◌-◌}
 use mathlib.Core.Path.{ap}
 use native.Mathlib.Omega.{arith}
 use Rattle.lists.proofs.Images.{get_d_in}
-use Rattle.lists.proofs.Filled.{filled_none, filled_more, filled_end}
+use Rattle.lists.proofs.Filled.{filled_more}
 use Rattle.history.specs.declared.Op.{Op}
 use Rattle.writers.proofs.value_of.Goals as goal
 
-pub loop-i-init : goal.loop-i-init
-loop-i-init c = filled_none _ _ _ (omega arith)
-
-pub offset_bounds-rows-i : goal.offset_bounds-rows-i
-offset_bounds-rows-i c = omega arith
-
-pub bounds-rows-i : goal.bounds-rows-i
-bounds-rows-i c = omega arith
-
-pub at-o-requires : goal.at-o-requires
-at-o-requires c = c.requires.within _ (get_d_in c.args.rows.now 0 c.loop-i.i (omega arith))
-
-pub offset_bounds-out-i : goal.offset_bounds-out-i
-offset_bounds-out-i c = omega arith
-
-pub bounds-out-i : goal.bounds-out-i
-bounds-out-i c = omega arith
-
-pub overflow_add-i : goal.overflow_add-i
-overflow_add-i c = omega arith
-
-pub loop-i-smaller : goal.loop-i-smaller
-loop-i-smaller c = omega arith
+pub at-requires : goal.at-requires
+at-requires c = c.requires.within _ (get_d_in c.args.rows.now 0 c.loop-i.i (omega arith))
 
 pub loop-i-preserved : goal.loop-i-preserved
-loop-i-preserved c = filled_more _ _ _ (omega arith) _ _ _ (omega arith) (ap (λ (o : Op). o.value) c.at-o.ensures) c.loop-i.invariant
-
-pub shape_of-out : goal.shape_of-out
-shape_of-out c = c.loop-i.invariant.long
-
-pub returns : goal.returns
-returns c = filled_end _ _ _ (omega arith) _ _ (omega arith) c.loop-i.invariant
+loop-i-preserved c = filled_more _ _ _ (omega arith) _ _ _ (omega arith) (ap (λ (o : Op). o.value) c.at.ensures) c.loop-i.invariant

@@ -1,4 +1,3 @@
-use Prim.Native.Nat.{◌-◌}
 use mathlib.Core.Path.{sym}
 use native.Mathlib.Omega.{arith}
 use Rattle.zone_method.proofs.Passing.{pass_none, pass_end, pass_hit, pass_on}
@@ -7,20 +6,8 @@ use Rattle.zone_method.proofs.decide.Goals as goal
 pub loop-i-init : goal.loop-i-init
 loop-i-init c = pass_none _ _
 
-pub overflow_add-i : goal.overflow_add-i
-overflow_add-i c = omega arith
-
-pub finish_at-requires : goal.finish_at-requires
-finish_at-requires c = omega (arith, c.requires)
-
 pub returns-then-finish_at-bound : goal.returns-then-finish_at-bound
 returns-then-finish_at-bound c = sym (pass_hit _ _ _ _ c.loop-i.invariant (omega arith) _ c.finish_at.ensures c.if-finish_at-bound.true)
-
-pub reached-bound-requires : goal.reached-bound-requires
-reached-bound-requires c = omega (arith, c.requires)
-
-pub loop-i-smaller : goal.loop-i-smaller
-loop-i-smaller c = omega arith
 
 pub loop-i-preserved : goal.loop-i-preserved
 loop-i-preserved c = pass_on _ _ _ _ c.loop-i.invariant (omega arith) _ c.finish_at.ensures c.if-finish_at-bound.false _ c.reached-bound.ensures

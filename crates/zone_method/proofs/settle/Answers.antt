@@ -4,10 +4,11 @@ use Rattle.zone_method.proofs.settle.Goals as goal
 
 pub lay-from-requires : goal.lay-from-requires
 lay-from-requires c =
-    let rest = lay_asks _ c.requires.sound c.requires.few _ c.requires.zoned _ c.requires.list_value _ c.requires.says _ _ c.requires.placed_room c.requires.free c.requires.order_room in record { linked = c.requires.sound.links; ready = rest.0; whole = rest.1.0; once = rest.1.1 }
+    let rest = lay_asks _ c.args.columns.now.sound c.requires.few _ c.requires.zoned _ c.requires.list_value _ c.requires.says _ _ c.requires.placed_room c.requires.free c.requires.order_room in
+    record { ready = rest.0; whole = rest.1.0; once = rest.1.1 }
 
 pub returns-then-one : goal.returns-then-one
-returns-then-one c = search_fresh _ c.requires.sound c.requires.few _ c.requires.zoned _ c.requires.list_value _ c.requires.says _ _ c.requires.placed_room c.requires.free c.requires.order_room _ c.if-one.true c.lay-from.ensures c.lay-from.auto.order
+returns-then-one c = search_fresh _ c.args.columns.now.sound c.requires.few _ c.requires.zoned _ c.requires.list_value _ c.requires.says _ _ c.requires.placed_room c.requires.free c.requires.order_room _ c.if-one.true c.lay-from.ensures c.lay-from.auto.order
 
-pub returns : goal.returns
-returns c = search_stale _ c.requires.sound c.requires.few _ c.requires.zoned _ c.requires.list_value _ c.requires.says _ c.if-one.false
+pub returns-else-one : goal.returns-else-one
+returns-else-one c = search_stale _ c.args.columns.now.sound c.requires.few _ c.requires.zoned _ c.requires.list_value _ c.requires.says _ c.if-one.false

@@ -1,17 +1,12 @@
-use mathlib.Core.Path.{◌≡◌, refl}
-use mathlib.Core.Bool.{Bool, true, false, ◌||◌}
-use borrow.Author.Tests.{ne_eqb}
+use mathlib.Core.Path.{refl}
+use borrow.Author.Tests.{eq-eqb, ne_eqb}
 use Rattle.history.specs.Table.{is_opening, is_write}
 use Rattle.history.proofs.Op.is_write.Goals as goal
 
-or-false : (b : Bool) → b ≡ (b || false)
-or-false true = refl
-or-false false = refl
-
-pub returns-then-self-eq-OPENING : goal.returns-then-self-eq-OPENING
+pub returns-then-self : goal.returns-then-self
 unfolding is_write is_opening
-returns-then-self-eq-OPENING c = rw c.if-self-eq-OPENING.true refl
+returns-then-self c = rw (eq-eqb _ 1 c.if-self.true) refl
 
-pub returns : goal.returns
+pub returns-else-self : goal.returns-else-self
 unfolding is_write is_opening
-returns c = rw (ne_eqb _ 3 c.if-self-eq-OPENING.false) (or-false _)
+returns-else-self c = rw (ne_eqb _ 1 c.if-self.false) refl

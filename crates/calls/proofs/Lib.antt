@@ -1,2 +1,0 @@
--- What the proofs of the exported calls share.
-mod Saying
