@@ -62,7 +62,7 @@ fn turn(list: &[u64], swap: bool, out: &mut [u64])
     requires { length list.now ≡ length out.old }
     ensures { out.new ≡ backward (swap_if swap list.now) }
 {
-    out.copy_from_slice(list);
+    lists::copy(list, out);
     if swap && out.len() > 1 {
         out.swap(0, 1);
     }

@@ -132,7 +132,7 @@ fn append(part: &[u64], order: &mut [u64], m: usize) -> usize
     ensures { (result ≡ m + length part.now) × (take result order.new ≡ take m order.old ++ part.now) }
 {
     let end = m + part.len();
-    order[m..end].copy_from_slice(part);
+    lists::copy(part, &mut order[m..end]);
     end
 }
 

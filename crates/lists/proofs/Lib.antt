@@ -16,3 +16,4 @@ pub mod Stores
 pub mod Entries
 pub mod Filled
 pub mod Groups
+pub mod Copying

@@ -180,7 +180,7 @@ fn call_sized<const N: usize>(
 {
     let mut rows = [0u64; N];
     let asked = Question::try_from(question);
-    let met = refusal(table, register, asked.is_err(), list.len(), &mut rows);
+    let met = refusal(table, register, unasked(question), list.len(), &mut rows);
     let Ok(asked) = asked else {
         return met;
     };

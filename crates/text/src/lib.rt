@@ -37,7 +37,7 @@ pub fn put_bytes(text: &[u8], out: &mut [u8], at: usize) -> usize
     ensures { (result ≡ at + length text.now) × (out.new ≡ sets out.old at text.now) }
 {
     let end = at + text.len();
-    out[at..end].copy_from_slice(text);
+    lists::copy(text, &mut out[at..end]);
     end
 }
 

@@ -10,8 +10,8 @@ pub returns : goal.returns
 returns c =
     let e : c.if-swap.out ≡ swap_if c.args.swap c.args.list.now =
     elim c.if-swap.branch [
-      | then-swap+then-out-gt1 w ↦ w.out-is ∙ w.swap.ensures.after ∙ rw (c.copy_from_slice.ensures.after, w.if-swap.true) (swap_two _ (omega arith))
-      | else-swap w ↦ w.out-is ∙ c.copy_from_slice.ensures.after ∙ swap_none _ _ (elim w.else-swap.branch [
+      | then-swap+then-out-gt1 w ↦ w.out-is ∙ w.swap.ensures.after ∙ rw (c.copy.ensures, w.if-swap.true) (swap_two _ (omega arith))
+      | else-swap w ↦ w.out-is ∙ c.copy.ensures ∙ swap_none _ _ (elim w.else-swap.branch [
         | else-swap-via-then-swap+else-out-gt1 v ↦ inr (omega arith)
         | else-swap-via-else-swap v ↦ inl v.if-swap.false
       ])
